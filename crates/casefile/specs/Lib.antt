@@ -1,0 +1,5 @@
+pub mod Files
+pub mod Layout
+pub mod Numbers
+pub mod Owing
+pub mod Records

@@ -1,0 +1,4 @@
+pub mod Lists
+pub mod Report
+pub mod Words
+pub mod Written
