@@ -1,0 +1,2 @@
+-- What the contracts and ghost members cite.
+pub mod Likeness
