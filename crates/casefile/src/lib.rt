@@ -3,6 +3,6 @@
 pub mod fault;
 pub mod file;
 mod header;
-mod layout;
+pub mod layout;
 pub mod reader;
 mod records;
