@@ -1,5 +1,6 @@
 pub mod Check
 pub mod First
+pub mod Interpretations
 pub mod Meanings
 pub mod Names
 pub mod Numbers

@@ -1,0 +1,11 @@
+pub mod AcceptedLaws
+pub mod BlockingLaws
+pub mod ConditionLaws
+pub mod DecidingLaws
+pub mod EqualityLaws
+pub mod HeldLaws
+pub mod MissingLaws
+pub mod StepFaults
+pub mod StepLaws
+pub mod StepOutcomes
+pub mod WriteLaws

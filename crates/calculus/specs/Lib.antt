@@ -1,0 +1,15 @@
+pub mod Blocking
+pub mod Branches
+pub mod Conditions
+pub mod Equality
+pub mod Examples
+pub mod Faults
+pub mod HeldLaws
+pub mod Holding
+pub mod Playing
+pub mod Review
+pub mod Runs
+pub mod States
+pub mod StepLaws
+pub mod Table
+pub mod Walks
