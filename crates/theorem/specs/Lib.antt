@@ -1,1 +1,5 @@
+pub mod Asking
+pub mod MainTheorem
+pub mod Opening
+pub mod Placed
 pub mod Soundness

@@ -1,0 +1,3 @@
+pub mod BehindLaws
+pub mod GrowingLaws
+pub mod TableLaws

@@ -1,0 +1,5 @@
+pub mod Growing
+pub mod Layers
+pub mod Owing
+pub mod Tables
+pub mod Views
