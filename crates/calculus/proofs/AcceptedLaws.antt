@@ -1,11 +1,11 @@
 -- When a step is accepted, and what an accepted step leaves.
-use mathlib.Core.Bool.{Bool, true, false, cond, _&&_}
+use mathlib.Core.Bool.{Bool, true, false, _&&_}
 use mathlib.Core.List.{List, [], _∷_, _++_}
 use mathlib.Core.Logic.{_⊎_, inl, inr, ⊎-elim}
 use mathlib.Core.Path.{_≡_, refl, ap, sym, subst, _∙_}
 use Prim.Native.Nat.{ℕ, _+_, _-_, _≤_, _<_}
 use native.Mathlib.Omega.{arith}
-use lib.Dec.{leb, ltb}
+use lib.Dec.{leb}
 use lib.ListN.{length, take, drop}
 use Rattle.std.proofs.shelf.Lists.{append-nil, length-append, length-drop, take-append-drop, take-at}
 use Rattle.std.proofs.shelf.Tests.{and-from, and-parts, both-ways, cases-bool, cases-lt, cond-false, cond-true, le-leb, leb-true, lt-ltb, ltb-true}
@@ -15,24 +15,22 @@ use Rattle.std.specs.declared.result.Result.{Result}
 use Rattle.std.specs.declared.result.Result.the-variants.{Ok, Err}
 use Rattle.kb.specs.declared.axioms.Assertion.{Assertion}
 use Rattle.kb.specs.Meanings.{Meaning}
-use Rattle.ledger.specs.Books.{Book, cut, filled, push, size}
+use Rattle.ledger.specs.Books.{Book, cut, filled, size}
 use Rattle.calculus.specs.declared.fault.StepFault.{StepFault}
 use Rattle.calculus.specs.declared.fault.StepFault.the-variants.{Full}
 use Rattle.calculus.specs.declared.rows.ConceptRow.{ConceptRow}
-use Rattle.calculus.specs.declared.rows.PairRow.{PairRow}
 use Rattle.calculus.specs.declared.rows.PendingRow.{PendingRow}
-use Rattle.calculus.specs.declared.rows.RoleRow.{RoleRow}
 use Rattle.calculus.specs.declared.step.Step.{Step}
 use Rattle.calculus.specs.Branches.{Branch, held}
 use Rattle.calculus.specs.Playing.{Played, Written, accepted, close, cutTo, extend, individualsAfter, lastOf, note, noteable, play, writeMissing}
 use Rattle.calculus.specs.States.{Ledgers, State, branch, branchOf, sizesOf}
-use Rattle.calculus.specs.HeldLaws.{HeldStays}
+use Rattle.calculus.specs.HeldLaws.{Extends, HeldStays}
 use Rattle.calculus.specs.StepLaws.{Among, Acceptable, AcceptedStep, ClosedBranch, ClosedSheet, Counted, Extended, RoomToExtend, RoomToTakeUp, StepLaw, TakenUp, appended, conceptRows, cutBack, entered, listed, missing, pairRows, roleRows, sideOf, written}
 use Rattle.calculus.specs.Table.{Rule, andThen, rule}
 use Rattle.calculus.proofs.MissingLaws.{missing-absent, missing-among, missing-present}
 use Rattle.calculus.proofs.StepLaws.{accepted-carried, accepted-line, play-carried, refused-changes-nothing, refused-in-order}
 use Rattle.calculus.proofs.StepOutcomes.{carried}
-use Rattle.calculus.proofs.WriteLaws.{Appended, Behind, Places, Wrote, appended-branch, appended-places, appended-sizes, missing-held, missing-more, push-behind, rowsIn, writeMissing-room, writeMissing-wrote}
+use Rattle.calculus.proofs.WriteLaws.{Places, Wrote, appended-branch, appended-places, appended-sizes, missing-held, missing-more, push-behind, rowsIn, writeMissing-room, writeMissing-wrote}
 
 -- an answer behind another that is accepted
 andThen-ok : {X Y : Type 0} (r : Result X StepFault) (next : X → Result Y StepFault) (y : Y) → andThen r next ≡ Ok y → (x : X) × (r ≡ Ok x) × (next x ≡ Ok y)
@@ -326,6 +324,18 @@ module _ (m : Meaning) (scratch : ℕ) (t : Step) (s : State) where
   -- what is written is appended
   pub written-appended : (p : Played) (q : Rule) → play m scratch t s ≡ Ok p → rule m (s .numbers .individuals) t ≡ Ok q → q .closes ≡ false → branch (p .state) ≡ appended (written m s q) (entered s q)
   written-appended p q e r h = extension-branch m s q p (accepted-extends p q (accepted-line m scratch t s p q e r) h)
+
+  pub step-extends : (p : Played) (q : Rule) → play m scratch t s ≡ Ok p → rule m (s .numbers .individuals) t ≡ Ok q → q .closes ≡ false → Extends (branch s) (branch (p .state))
+  step-extends p q e r h =
+      let b = written-appended p q e r h in
+      record {
+        moreConcepts = conceptRows (written m s q);
+        moreRoles = roleRows (written m s q);
+        morePairs = pairRows (written m s q);
+        concepts = ap (λ (b : Branch). b .concepts) b;
+        roles = ap (λ (b : Branch). b .roles) b;
+        pairs = ap (λ (b : Branch). b .pairs) b;
+      }
 
   pub accepted-acceptable : (p : Played) → play m scratch t s ≡ Ok p → (q : Rule) × Acceptable m scratch t s q
   accepted-acceptable p e =

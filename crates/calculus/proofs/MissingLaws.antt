@@ -1,14 +1,12 @@
 -- Of facts, those that are missing: they are of the facts, none is held before it is written, and every fact is held afterwards.
 use mathlib.Core.Bool.{Bool, true, false, _||_, _&&_}
 use mathlib.Core.List.{List, [], _∷_, _++_}
-use mathlib.Core.Logic.{_⊎_, inl, inr, ⊎-elim}
+use mathlib.Core.Logic.{⊎-elim}
 use mathlib.Core.Path.{_≡_, refl, ap, sym, subst, _∙_}
 use Prim.Native.Nat.{ℕ, zero, suc, min}
 use native.Mathlib.Omega.{arith}
 use lib.Dec.{eqb}
 use Rattle.std.proofs.shelf.Tests.{and-from, cases-bool, cond-true, eq-eqb, or-left, or-right}
-use Rattle.std.specs.declared.result.Result.the-variants.{Ok}
-use Rattle.rows.specs.Rows.{rowAt}
 use Rattle.kb.specs.declared.axioms.Assertion.{Assertion}
 use Rattle.kb.specs.declared.axioms.Assertion.the-variants.{Is, Joins, Same, Different, Unlisted}
 use Rattle.kb.specs.declared.names.Individual.{Individual}

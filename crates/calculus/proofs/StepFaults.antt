@@ -32,7 +32,7 @@ use Rattle.calculus.specs.declared.step.Step.the-variants.{Take, Both, All, So
 use Rattle.calculus.specs.Branches.{held}
 use Rattle.calculus.specs.Playing.{Played, Written, accepted, close, extend, individualsAfter, note, noteable, cutTo, room, rowsOf, write, writeMissing}
 use Rattle.calculus.specs.States.{State, branchOf}
-use Rattle.calculus.specs.Table.{Rule, adding, allBelow, allRule, andThen, below, bothRule, closing, eitherRule, entryShape, includeRule, inside, keyRule, rowIn, rule, shapeIn, shapeOf, sharing, someRule, splitting}
+use Rattle.calculus.specs.Table.{Rule, adding, allBelow, allRule, andThen, below, bothRule, closing, eitherRule, entryShape, includeRule, inside, keyRule, rowIn, rule, shapeIn, sharing, someRule, splitting}
 
 -- an answer refuses, if at all, with a fault that passes a test
 abbrev pub Faults : {X : Type 0} → (StepFault → Bool) → Result X StepFault → Type 0

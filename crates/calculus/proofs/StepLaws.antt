@@ -1,7 +1,7 @@
 -- The order of refusals of a step, and which rule an accepted step carried out.
-use mathlib.Core.Bool.{Bool, true, false, cond, _&&_}
+use mathlib.Core.Bool.{Bool, true, false}
 use mathlib.Core.List.{List, [], _∷_}
-use mathlib.Core.Logic.{_⊎_, inl, inr, ⊎-elim}
+use mathlib.Core.Logic.{_⊎_, inl, inr}
 use mathlib.Core.Path.{_≡_, refl, ap, sym, subst, _∙_}
 use Prim.Native.Nat.{ℕ, zero, suc, _≤_, _<_}
 use native.Mathlib.Omega.{arith}
@@ -9,7 +9,6 @@ use lib.Dec.{leb, ltb}
 use Rattle.std.proofs.shelf.Tests.{and-left, and-right, both-ways, cond-both, cond-false, cond-true, le-leb, lt-leb, lt-ltb}
 use Rattle.std.specs.declared.result.Result.{Result}
 use Rattle.std.specs.declared.result.Result.the-variants.{Ok, Err}
-use Rattle.rows.specs.Rows.{rowAt}
 use Rattle.kb.specs.Meanings.{Meaning}
 use Rattle.calculus.specs.declared.fault.StepFault.{StepFault}
 use Rattle.calculus.specs.declared.fault.StepFault.the-variants.{Changed, Closed, Row, Range, Kind, Premise, Full}

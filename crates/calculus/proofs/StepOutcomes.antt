@@ -1,21 +1,20 @@
 -- The ways in which a step can come out, in the order in which they are looked at.
-use mathlib.Core.Bool.{Bool, true, false, cond, _&&_}
+use mathlib.Core.Bool.{Bool, true, false, cond}
 use mathlib.Core.List.{List, [], _∷_}
-use mathlib.Core.Logic.{_⊎_, inl, inr, ⊎-elim}
-use mathlib.Core.Path.{_≡_, refl, ap, sym, subst, _∙_}
+use mathlib.Core.Logic.{⊎-elim}
+use mathlib.Core.Path.{_≡_, refl, ap, sym, _∙_}
 use Prim.Native.Nat.{ℕ, zero, suc, _≤_, _<_}
 use native.Mathlib.Omega.{arith}
 use lib.Dec.{leb, ltb}
 use Rattle.std.proofs.shelf.Tests.{and-cases, and-parts, cond-both, leb-false, leb-true, ltb-false, ltb-true}
 use Rattle.std.specs.declared.result.Result.{Result}
 use Rattle.std.specs.declared.result.Result.the-variants.{Ok, Err}
-use Rattle.rows.specs.Rows.{rowAt}
 use Rattle.kb.specs.Meanings.{Meaning}
 use Rattle.calculus.specs.declared.fault.StepFault.{StepFault}
 use Rattle.calculus.specs.declared.fault.StepFault.the-variants.{Changed, Closed, Premise, Full}
 use Rattle.calculus.specs.declared.step.Step.{Step}
 use Rattle.calculus.specs.Branches.{held}
-use Rattle.calculus.specs.Playing.{Played, close, extend, lastOf, perform, play, ready}
+use Rattle.calculus.specs.Playing.{Played, close, extend, lastOf, perform, play}
 use Rattle.calculus.specs.States.{State, branch, every, fits}
 use Rattle.calculus.specs.StepLaws.{Among, NeedMissing, NeedsHeld, Ready}
 use Rattle.calculus.specs.Table.{Rule, andThen, rule}

@@ -1,30 +1,27 @@
 -- What writing facts appends, where it has room, and what is held afterwards.
-use mathlib.Core.Bool.{Bool, true, false, cond, _||_, _&&_}
+use mathlib.Core.Bool.{true, false}
 use mathlib.Core.List.{List, [], _∷_, _++_}
-use mathlib.Core.Logic.{_⊎_, inl, inr, ⊎-elim}
+use mathlib.Core.Logic.{⊎-elim}
 use mathlib.Core.Path.{_≡_, refl, ap, sym, subst, _∙_}
-use Prim.Native.Nat.{ℕ, zero, suc, min, _+_, _≤_, _<_}
+use Prim.Native.Nat.{ℕ, _+_, _≤_}
 use native.Mathlib.Omega.{arith}
-use lib.Dec.{eqb, ltb}
+use lib.Dec.{ltb}
 use lib.ListN.{length}
 use Rattle.std.proofs.shelf.Lists.{append-assoc, append-nil, length-append}
-use Rattle.std.proofs.shelf.Tests.{cases-bool, cond-false, cond-true, eq-eqb, lt-ltb, ltb-true, or-left, or-right}
+use Rattle.std.proofs.shelf.Tests.{cases-bool, cond-false, cond-true, lt-ltb}
 use Rattle.std.specs.declared.result.Result.{Result}
 use Rattle.std.specs.declared.result.Result.the-variants.{Ok, Err}
 use Rattle.kb.specs.declared.axioms.Assertion.{Assertion}
 use Rattle.kb.specs.declared.axioms.Assertion.the-variants.{Is, Joins, Same, Different, Unlisted}
-use Rattle.kb.specs.declared.names.Individual.{Individual}
 use Rattle.kb.specs.Meanings.{Meaning}
 use Rattle.ledger.specs.Books.{Book, filled, push, size}
 use Rattle.calculus.specs.declared.fault.StepFault.{StepFault}
 use Rattle.calculus.specs.declared.fault.StepFault.the-variants.{Full}
-use Rattle.calculus.specs.declared.rows.PairRow.{PairRow}
-use Rattle.calculus.specs.declared.rows.PairRow.the-variants.{Same as SameRow}
-use Rattle.calculus.specs.Branches.{Branch, any, conceptRowHolds, equal, headOf, headsFrom, held, joinHeads, merged, pairRowHolds, roleRowHolds}
+use Rattle.calculus.specs.Branches.{Branch, held}
 use Rattle.calculus.specs.Playing.{Written, free, room, rowsOf, write, writeMissing}
 use Rattle.calculus.specs.States.{Ledgers, branchOf, sizesOf}
 use Rattle.calculus.specs.HeldLaws.{Extends}
-use Rattle.calculus.specs.StepLaws.{Among, appended, conceptRows, listed, missing, pairRows, roleRows}
+use Rattle.calculus.specs.StepLaws.{appended, conceptRows, missing, pairRows, roleRows}
 
 conceptRows-cons : (a : Assertion) (facts : List Assertion) → conceptRows (a ∷ facts) ≡ conceptRows (a ∷ []) ++ conceptRows facts
 conceptRows-cons (Is c x) facts = refl

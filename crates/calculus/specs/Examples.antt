@@ -8,7 +8,7 @@ use lib.ListN.{length, replicate}
 use Rattle.std.specs.declared.result.Result.{Result}
 use Rattle.std.specs.declared.result.Result.the-variants.{Ok, Err}
 use Rattle.rows.specs.Rows.{refusal}
-use Rattle.kb.specs.declared.axioms.Assertion.the-variants.{Is}
+use Rattle.kb.specs.declared.axioms.Assertion.the-variants.{Is, Joins, Different}
 use Rattle.kb.specs.declared.axioms.Key.the-variants.{Link}
 use Rattle.kb.specs.declared.axioms.RolePairs.the-variants.{One}
 use Rattle.kb.specs.declared.lexicon.Entry.the-variants.{Top, Name, Some as SomeEntry}
@@ -28,9 +28,11 @@ use Rattle.calculus.specs.declared.rows.PairRow.the-variants.{Same as SameRow}
 use Rattle.calculus.specs.declared.step.Step.{Step}
 use Rattle.calculus.specs.declared.step.Step.the-variants.{Take, Both, Some as SomeStep, Include, Key, Cut, Clash, Apart}
 use Rattle.calculus.specs.Faults.{stepFaultNumbers}
+use Rattle.calculus.specs.Branches.{Branch}
 use Rattle.calculus.specs.Playing.{answer, left, opened, play}
 use Rattle.calculus.specs.Review.{review}
-use Rattle.calculus.specs.States.{Ledgers, State}
+use Rattle.calculus.specs.States.{Ledgers, State, branch}
+use Rattle.calculus.specs.Walks.{afterBy, joinsWalks, walk}
 
 abbrev concept : ℕ → Concept
 concept n = record { 0 = n }
@@ -70,6 +72,31 @@ narrowerKey =
       keys = Link (concept 2) (concept 0) (One (record { left = role 0; right = role 1 })) ∷ [];
     })
     (KeyStatement (concept 4) (concept 0) (One (record { left = role 0; right = role 1 })))
+
+-- A name, one role, three individuals: role 0 from 0 and from 1 to 2, 0 different from 1; key 2, 0, (0, 0).
+abbrev pub sharedValue : Meaning
+sharedValue =
+    record {
+      entries = Top ∷ Name ∷ [];
+      roles = 1;
+      individuals = 3;
+      assertions =
+          Joins (role 0) (individual 0) (individual 2) ∷ Joins (role 0) (individual 1) (individual 2) ∷ Different (individual 0) (individual 1) ∷ [];
+      inclusions = [];
+      keys = Link (concept 2) (concept 0) (One (record { left = role 0; right = role 0 })) ∷ [];
+    }
+
+-- The base of one individual, with a name more.
+abbrev pub oneName : Meaning
+oneName =
+    record {
+      entries = oneIndividual .entries ++ Name ∷ [];
+      roles = 1;
+      individuals = 1;
+      assertions = oneIndividual .assertions;
+      inclusions = oneIndividual .inclusions;
+      keys = oneIndividual .keys;
+    }
 
 -- Ledgers of sixteen places each.
 abbrev pub places : Ledgers
@@ -143,8 +170,37 @@ cases =
           ∷ Key 0 (individual 0) (individual 1) (lent (individual 2 ∷ [])) ∷ Apart (individual 0) (individual 1) ∷ [];
       outcome = record { refusals = [] ∷ [] ∷ [] ∷ [] ∷ [] ∷ [] ∷ [] ∷ []; steps = 7; conceptRows = 2; finding = Ok Closed };
     }
+    -- the same row of the left branch does not outlive its closing: on the right branch 0 and 1 are not equal
+    ∷ record {
+      base = sharedValue;
+      lines =
+          Take 0 ∷ Take 1 ∷ Take 2 ∷ Cut (concept 2) (individual 0) ∷ Key 0 (individual 0) (individual 1) (lent (individual 2 ∷ []))
+          ∷ Apart (individual 0) (individual 1) ∷ Apart (individual 0) (individual 1) ∷ [];
+      outcome = record { refusals = [] ∷ [] ∷ [] ∷ [] ∷ [] ∷ [] ∷ (9 ∷ []) ∷ []; steps = 6; conceptRows = 1; finding = Err (Condition 6) };
+    }
+    -- individual 2 is blocked by 1 no longer once it holds what 1 does not: no blocker is remembered
+    ∷ record {
+      base = oneName;
+      lines =
+          Take 0 ∷ Include 0 (individual 0) ∷ SomeStep (concept 4) (individual 0) ∷ Include 0 (individual 1) ∷ SomeStep (concept 4) (individual 1)
+          ∷ Cut (concept 6) (individual 2) ∷ [];
+      outcome = record { refusals = [] ∷ [] ∷ [] ∷ [] ∷ [] ∷ [] ∷ []; steps = 6; conceptRows = 6; finding = Err (Condition 5) };
+    }
     ∷ []
 
 -- Every case comes out as it must.
 abbrev pub Worked : Type 0
 Worked = map outcome cases ≡ map (λ (c : Case). c .outcome) cases
+
+-- The endless model of one individual: the sheet that review finds open.
+abbrev pub endless : Branch
+endless = branch (playAll oneIndividual (Take 0 ∷ Include 0 (individual 0) ∷ SomeStep (concept 4) (individual 0) ∷ Include 0 (individual 1) ∷ SomeStep (concept 4) (individual 1) ∷ []) (opened oneIndividual places))
+
+-- On it the blocked individual 2 goes on as 1. Were its edge bent back to 1, both 0 and 1 would be joined to 1, and the key
+-- would make them one. Walks go on instead: 0 is joined to the walk 0 1, and that to the longer walk 0 1 1 and not to itself.
+pub record Unravelled : Type 0 where
+  pub bent : (afterBy oneIndividual endless (role 0) 0 1 ≡ true) × (afterBy oneIndividual endless (role 0) 1 1 ≡ true)
+  pub first : joinsWalks oneIndividual endless (role 0) (0 ∷ []) (0 ∷ 1 ∷ []) ≡ true
+  pub on : joinsWalks oneIndividual endless (role 0) (0 ∷ 1 ∷ []) (0 ∷ 1 ∷ 1 ∷ []) ≡ true
+  pub not-back : joinsWalks oneIndividual endless (role 0) (0 ∷ 1 ∷ []) (0 ∷ 1 ∷ []) ≡ false
+  pub walk-on : walk oneIndividual endless (0 ∷ 1 ∷ 1 ∷ 1 ∷ []) ≡ true

@@ -6,7 +6,6 @@ use mathlib.Core.Path.{_≡_}
 use Prim.Native.Nat.{ℕ, _+_, _≤_, _<_}
 use lib.ListN.{length, take}
 use Rattle.std.specs.declared.option.Option.the-variants.{Some, None}
-use Rattle.std.specs.declared.result.Result.{Result}
 use Rattle.std.specs.declared.result.Result.the-variants.{Ok, Err}
 use Rattle.rows.specs.Rows.{rowAt}
 use Rattle.kb.specs.declared.axioms.Assertion.{Assertion}
@@ -23,7 +22,7 @@ use Rattle.calculus.specs.declared.rows.RoleRow.{RoleRow}
 use Rattle.calculus.specs.declared.step.Step.{Step}
 use Rattle.calculus.specs.Branches.{Branch, held}
 use Rattle.calculus.specs.Playing.{Played, individualsAfter, left, play}
-use Rattle.calculus.specs.States.{Ledgers, State, branch, branchOf, fits, rowCounts, sizesOf}
+use Rattle.calculus.specs.States.{State, branch, branchOf, fits, rowCounts, sizesOf}
 use Rattle.calculus.specs.Table.{Rule, rule}
 
 -- An item stands in a list.
@@ -55,6 +54,7 @@ pairRows (Same x y ∷ facts) = SameRow x y ∷ pairRows facts
 pairRows (Different x y ∷ facts) = DifferentRow x y ∷ pairRows facts
 pairRows (Unlisted kind ∷ facts) = pairRows facts
 
+-- Every other assertion is.
 abbrev pub listed : Assertion → Bool
 listed (Is c x) = true
 listed (Joins r x y) = true
@@ -72,12 +72,13 @@ appended facts b =
       individuals = b .individuals;
     }
 
--- Of facts, those that a branch does not hold when their turn comes, each behind the ones before it.
+-- Of facts, those that are missing when their turn comes: not held on the branch with the missing ones before it appended.
 abbrev pub missing : Meaning → Branch → List Assertion → List Assertion
 missing m b [] = []
 missing m b (a ∷ facts) = cond (held m b a) (missing m b facts) (a ∷ missing m (appended (a ∷ []) b) facts)
 
--- A step may come before the table: the base and the rows are the sheet's, the scratch suffices, the sheet is not closed.
+-- Nothing refuses a step before the table is asked: the base and the rows are the sheet's, the scratch suffices, and the
+-- sheet is not closed.
 pub record Ready (m : Meaning) (scratch : ℕ) (s : State) : Type 0 where
   pub unchanged : fits m s ≡ true
   pub long : 1024 ≤ scratch
@@ -89,19 +90,6 @@ NeedsHeld m s q = (a : Assertion) → Among a (q .needs) → held m (branch s) a
 
 abbrev pub NeedMissing : Meaning → State → Rule → Type 0
 NeedMissing m s q = (a : Assertion) × Among a (q .needs) × (held m (branch s) a ≡ false)
-
--- The order of refusals: 5, 10 for a short scratch, 6, then what the table refuses with, 9, and last 10 without room.
-pub record RefusedInOrder (m : Meaning) (scratch : ℕ) (t : Step) (s : State) : Type 0 where
-  pub changed : (play m scratch t s ≡ Err Changed) ↔ (fits m s ≡ false)
-  pub short : fits m s ≡ true → scratch < 1024 → play m scratch t s ≡ Err Full
-  pub closed : (play m scratch t s ≡ Err Closed) ↔ ((fits m s ≡ true) × (1024 ≤ scratch) × (s .numbers .closed ≡ true))
-  pub table : Ready m scratch s → (f : StepFault) → rule m (s .numbers .individuals) t ≡ Err f → play m scratch t s ≡ Err f
-  pub premise :
-      (play m scratch t s ≡ Err Premise)
-      ↔ (Ready m scratch s × ((q : Rule) × (rule m (s .numbers .individuals) t ≡ Ok q) × NeedMissing m s q))
-  pub otherwise :
-      Ready m scratch s → (q : Rule) → rule m (s .numbers .individuals) t ≡ Ok q → NeedsHeld m s q
-      → (play m scratch t s ≡ Err Full) ⊎ ((p : Played) × (play m scratch t s ≡ Ok p))
 
 -- The branch that a rule writes on: a fresh rule's new individual is there.
 abbrev pub entered : State → Rule → Branch
@@ -144,16 +132,6 @@ RoomToTakeUp m s =
     (earlier : List PendingRow) (d : PendingRow) → s .ledgers .pending .rows ≡ earlier ++ d ∷ []
     → (held m (cutBack s d) (sideOf d) ≡ true) ⊎ ((d .concepts < length (s .ledgers .concepts .rows)) ⊎ Free (s .ledgers .concepts))
 
--- What makes a step accepted, by its line of the table: nothing refuses it before the table or at its needs, fewer than
--- 1,000,000 steps were made, and there is room.
-pub record Acceptable (m : Meaning) (scratch : ℕ) (t : Step) (s : State) (q : Rule) : Type 0 where
-  pub ready : Ready m scratch s
-  pub table : rule m (s .numbers .individuals) t ≡ Ok q
-  pub needs : NeedsHeld m s q
-  pub steps : s .numbers .steps < 1000000
-  pub extending : q .closes ≡ false → RoomToExtend m s q
-  pub closing : q .closes ≡ true → RoomToTakeUp m s
-
 -- After any accepted step: one step more; base and sizes as remembered, and every ledger as large as it was; the rows
 -- remembered are those that there are.
 pub record Counted (s : State) (p : Played) : Type 0 where
@@ -195,13 +173,6 @@ pub record Extended (m : Meaning) (s : State) (q : Rule) (p : Played) : Type 0 w
   pub known : q .fresh ≡ false → p .state .numbers .individuals ≡ s .numbers .individuals
   pub unclosed : p .state .numbers .closed ≡ false
 
--- Acceptance: exactly if the step is acceptable; and what then is counted and left.
-pub record AcceptedStep (m : Meaning) (scratch : ℕ) (t : Step) (s : State) : Type 0 where
-  pub exactly : ((p : Played) × (play m scratch t s ≡ Ok p)) ↔ ((q : Rule) × Acceptable m scratch t s q)
-  pub counted : (p : Played) → play m scratch t s ≡ Ok p → Counted s p
-  pub extended :
-      (p : Played) (q : Rule) → play m scratch t s ≡ Ok p → rule m (s .numbers .individuals) t ≡ Ok q → q .closes ≡ false → Extended m s q p
-
 -- With no right side pending the sheet is closed, and nothing else changes.
 pub record ClosedSheet (s : State) (p : Played) : Type 0 where
   pub closed : p .state .numbers .closed ≡ true
@@ -223,21 +194,65 @@ pub record TakenUp (m : Meaning) (s : State) (earlier : List PendingRow) (d : Pe
   pub individuals : p .state .numbers .individuals ≡ d .individuals
   pub unclosed : p .state .numbers .closed ≡ false
 
--- What a rule that closes leaves.
-pub record ClosedBranch (m : Meaning) (scratch : ℕ) (t : Step) (s : State) : Type 0 where
-  pub sheet :
-      (p : Played) (q : Rule) → play m scratch t s ≡ Ok p → rule m (s .numbers .individuals) t ≡ Ok q → q .closes ≡ true
-      → s .ledgers .pending .rows ≡ [] → ClosedSheet s p
-  pub taken :
-      (p : Played) (q : Rule) → play m scratch t s ≡ Ok p → rule m (s .numbers .individuals) t ≡ Ok q → q .closes ≡ true
-      → (earlier : List PendingRow) (d : PendingRow) → s .ledgers .pending .rows ≡ earlier ++ d ∷ [] → TakenUp m s earlier d p
+-- A step t on a sheet s over a base m, with a scratch of a given length.
+module _ (m : Meaning) (scratch : ℕ) (t : Step) (s : State) where
+  -- The step is refused with a fault; it is accepted; a rule is its line of the table, or the table refuses it.
+  abbrev pub Refused : StepFault → Type 0
+  Refused f = play m scratch t s ≡ Err f
 
--- The law of a step: it is refused in this order, and a refused step changes nothing; it is accepted so, and closes so.
-pub record StepLaw (m : Meaning) (scratch : ℕ) (t : Step) (s : State) : Type 0 where
-  pub refused : RefusedInOrder m scratch t s
-  pub nothing : (f : StepFault) → play m scratch t s ≡ Err f → left s (play m scratch t s) ≡ s
-  pub accepted : AcceptedStep m scratch t s
-  pub closed : ClosedBranch m scratch t s
+  abbrev pub Accepted : Played → Type 0
+  Accepted p = play m scratch t s ≡ Ok p
+
+  abbrev pub Line : Rule → Type 0
+  Line q = rule m (s .numbers .individuals) t ≡ Ok q
+
+  abbrev pub NoLine : StepFault → Type 0
+  NoLine f = rule m (s .numbers .individuals) t ≡ Err f
+
+  -- The order of refusals.
+  pub record RefusedInOrder : Type 0 where
+    -- 5 exactly if the base or the rows are not the sheet's
+    pub changed : Refused Changed ↔ (fits m s ≡ false)
+    -- otherwise 10 with a scratch of fewer than 1,024 numbers
+    pub short : fits m s ≡ true → scratch < 1024 → Refused Full
+    -- otherwise 6 exactly if the sheet is closed
+    pub closed : Refused Closed ↔ ((fits m s ≡ true) × (1024 ≤ scratch) × (s .numbers .closed ≡ true))
+    -- otherwise 7 or 8, as the table says
+    pub table : Ready m scratch s → (f : StepFault) → NoLine f → Refused f
+    -- otherwise 9 exactly if some need is not held
+    pub premise : Refused Premise ↔ (Ready m scratch s × ((q : Rule) × Line q × NeedMissing m s q))
+    -- otherwise 10, or the step is accepted
+    pub otherwise : Ready m scratch s → (q : Rule) → Line q → NeedsHeld m s q → Refused Full ⊎ ((p : Played) × Accepted p)
+
+  -- What makes a step acceptable by a line of the table: nothing refuses it before, its needs are held, fewer than 1,000,000
+  -- steps were made, and there is room.
+  pub record Acceptable (q : Rule) : Type 0 where
+    pub ready : Ready m scratch s
+    pub table : Line q
+    pub needs : NeedsHeld m s q
+    pub steps : s .numbers .steps < 1000000
+    pub extending : q .closes ≡ false → RoomToExtend m s q
+    pub closing : q .closes ≡ true → RoomToTakeUp m s
+
+  -- A step is accepted exactly if it is acceptable; it is counted, and extends the branch unless its rule closes.
+  pub record AcceptedStep : Type 0 where
+    pub exactly : ((p : Played) × Accepted p) ↔ ((q : Rule) × Acceptable q)
+    pub counted : (p : Played) → Accepted p → Counted s p
+    pub extended : (p : Played) (q : Rule) → Accepted p → Line q → q .closes ≡ false → Extended m s q p
+
+  -- A rule that closes ends the branch: with no right side pending the sheet is closed, else the last is taken up.
+  pub record ClosedBranch : Type 0 where
+    pub sheet : (p : Played) (q : Rule) → Accepted p → Line q → q .closes ≡ true → s .ledgers .pending .rows ≡ [] → ClosedSheet s p
+    pub taken :
+        (p : Played) (q : Rule) → Accepted p → Line q → q .closes ≡ true → (earlier : List PendingRow) (d : PendingRow)
+        → s .ledgers .pending .rows ≡ earlier ++ d ∷ [] → TakenUp m s earlier d p
+
+  -- The law of a step: the order of refusals, that a refused step changes nothing, and what an accepted step is and leaves.
+  pub record StepLaw : Type 0 where
+    pub refused : RefusedInOrder
+    pub nothing : (f : StepFault) → Refused f → left s (play m scratch t s) ≡ s
+    pub accepted : AcceptedStep
+    pub closed : ClosedBranch
 
 abbrev pub StepsArePlayed : Type 0
 StepsArePlayed = (m : Meaning) (scratch : ℕ) (t : Step) (s : State) → StepLaw m scratch t s
