@@ -10,6 +10,7 @@ use Rattle.std.proofs.shelf.Equals.{sameBytes-decides}
 use Rattle.std.proofs.shelf.Tests.{and-parts, both-ways, cases-bool, ltb-true}
 use Rattle.std.specs.shelf.Lists.{All}
 use Rattle.std.specs.shelf.Text.{sameBytes}
+use Rattle.kb.proofs.NameLaws.{complement-entry}
 use Rattle.kb.specs.declared.axioms.Inclusion.{Inclusion as InclusionRow}
 use Rattle.kb.specs.declared.names.Concept.{Concept}
 use Rattle.kb.specs.declared.statement.Statement.{Statement}
@@ -34,14 +35,6 @@ one-or-not : (e f : List ℕ) → (e ≡ f) ⊎ (e ≡ f → ⊥)
 one-or-not e f =
     let d = sameBytes-decides e f in
     ⊎-elim (λ t. inl (d .0 t)) (λ no. inr (λ q. both-ways (sameBytes e f) no (d .1 q))) (cases-bool (sameBytes e f))
-
--- a concept has the entry of its complement
-complement-entry : (c : Concept) → entryNumber (complement c) ≡ entryNumber c
-complement-entry c = by-half (c .0 % 2) refl
-  where
-    by-half : (h : ℕ) → c .0 % 2 ≡ h → entryNumber (complement c) ≡ entryNumber c
-    by-half zero q = omega arith
-    by-half (suc h) q = omega arith
 
 -- the second concept of an inclusion that is asked is of the lexicon
 sup-there : (lower : Meaning) (i : InclusionRow) → Asked lower (Inclusion i) → entryNumber (i .sup) < length (lower .entries)

@@ -14,6 +14,7 @@ use Rattle.std.specs.shelf.Lists.{All}
 use Rattle.rows.proofs.RowLaws.{rowAt-found}
 use Rattle.rows.specs.declared.fault.RowFault.{RowFault}
 use Rattle.rows.specs.Rows.{rowAt}
+use Rattle.kb.proofs.NameLaws.{complement-entry}
 use Rattle.kb.specs.declared.axioms.Assertion.{Assertion}
 use Rattle.kb.specs.declared.axioms.Assertion.the-variants.{Is, Joins, Same, Different, Unlisted}
 use Rattle.kb.specs.declared.axioms.Key.{Key as KeyRow}
@@ -47,14 +48,6 @@ use Rattle.theorem.proofs.PlacedEqual.{sharing-cases}
 use Rattle.theorem.proofs.PlacedRows.{Placeable}
 use Rattle.theorem.proofs.TableSound.{row-passes}
 use Rattle.theorem.specs.Placed.{OfBase, OfBranch, Placed}
-
--- the complement is of the same entry
-pub complement-entry : (c : Concept) → entryNumber (complement c) ≡ entryNumber c
-complement-entry c = by-half (c .0 % 2) refl
-  where
-    by-half : (h : ℕ) → c .0 % 2 ≡ h → entryNumber (complement c) ≡ entryNumber c
-    by-half zero q = omega arith
-    by-half (suc h) q = omega arith
 
 module _ (m : Meaning) where
   -- A concept of the base.

@@ -12,6 +12,7 @@ use Rattle.std.proofs.shelf.Tests.{and-from, and-parts, cases-eq, cond-false, c
 use Rattle.rows.specs.declared.fault.RowFault.{RowFault}
 use Rattle.rows.specs.Rows.{rowAt}
 use Rattle.rows.proofs.RowLaws.{rowAt-found}
+use Rattle.kb.proofs.NameLaws.{complement-entry}
 use Rattle.kb.specs.declared.lexicon.Entry.{Entry}
 use Rattle.kb.specs.declared.lexicon.Entry.the-variants.{Top, Name, Both, Some, Unlisted}
 use Rattle.kb.specs.declared.names.Concept.{Concept}
@@ -25,20 +26,13 @@ use Rattle.calculus.specs.Branches.{Branch}
 use Rattle.calculus.specs.Walks.{entryAt, joinsWalks, rowEntryAt, sense, senseUpTo, walk, walks}
 use Rattle.calculus.proofs.DecidingLaws.{decides-someUnder, decides-true}
 use Rattle.theorem.proofs.Standing.{Standing}
+use Rattle.theorem.proofs.TableSound.{row-passes}
 use Rattle.theorem.proofs.WalkLaws.{joinsWalks-cases, lastFrom-push, no-empty-walk, walk-within}
-
--- a row that passes a test, where it is there
-pub row-passes : {X : Type 0} (test : X → Bool) (row : Result X RowFault) (x : X) → row ≡ Ok x → thereAnd test row ≡ true → test x ≡ true
-row-passes test row x e h = ap (thereAnd test) (sym e) ∙ h
-
--- the complement is of the same entry
-pub complement-entry : (c : Concept) → entryNumber (complement c) ≡ entryNumber c
-complement-entry c = ⊎-elim (λ e. omega arith) (λ e. omega arith) (cases-eq (c .0 % 2) 0)
 
 module _ (m : Meaning) (range : InRange m) where
   pub entry-in-range : (k : ℕ) (entry : Entry) → rowAt (m .entries) k ≡ Ok entry → entryInRange (countsOf m) k entry ≡ true
   entry-in-range k entry q =
-      row-passes (entryInRange (countsOf m) k) (rowAt (m .entries) k) entry q (range .entries k (rowAt-found (m .entries) k entry q))
+      row-passes (entryInRange (countsOf m)) (m .entries) k entry q (range .entries k (rowAt-found (m .entries) k entry q))
 
   -- TOP stands at 0 only, and no listed entry is of an unlisted kind
   pub top-at-0 : (k : ℕ) → rowAt (m .entries) k ≡ Ok Top → k ≡ 0

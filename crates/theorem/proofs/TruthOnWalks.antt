@@ -10,6 +10,7 @@ use Rattle.std.specs.declared.result.Result.the-variants.{Ok}
 use Rattle.std.proofs.shelf.Tests.{both-ways, cases-bool, cases-eq, cases-lt}
 use Rattle.rows.specs.Rows.{rowAt}
 use Rattle.rows.proofs.RowLaws.{rowAt-found, rowAt-inside}
+use Rattle.kb.proofs.NameLaws.{complement-entry}
 use Rattle.kb.specs.declared.axioms.Assertion.the-variants.{Is, Joins}
 use Rattle.kb.specs.declared.lexicon.Entry.{Entry}
 use Rattle.kb.specs.declared.lexicon.Entry.the-variants.{Top, Name, Both, Some, Unlisted}
@@ -27,7 +28,7 @@ use Rattle.calculus.specs.Walks.{joinsWalks, lastFrom, sense, target, walk, wal
 use Rattle.calculus.proofs.EqualityLaws.{head-reached}
 use Rattle.calculus.proofs.HeldLaws.{held-from, held-means}
 use Rattle.theorem.proofs.Standing.{Standing}
-use Rattle.theorem.proofs.SenseLaws.{both-before, complement-entry, complement-excludes, entry-as-says, entry-listed, sense-as, sense-complement, some-before, top-at-0}
+use Rattle.theorem.proofs.SenseLaws.{both-before, complement-excludes, entry-as-says, entry-listed, sense-as, sense-complement, some-before, top-at-0}
 use Rattle.theorem.proofs.WalkLaws.{after-from, afterBy-from, decides-afterBy, head-walk, held-of-equal, into-base-of-base, joins-of-equal, joinsWalks-cases, joinsWalks-one, joinsWalks-push, lastFrom-push, target-held, walk-not-blocked, walk-one, walk-push, walk-within}
 
 module _ (m : Meaning) (b : Branch) (range : InRange m) (placed : Standing m b) (holds : Conditions m b) where

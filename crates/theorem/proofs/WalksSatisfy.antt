@@ -38,7 +38,8 @@ use Rattle.calculus.specs.Walks.{joinsWalks, sense, walk, walkOf, walks}
 use Rattle.calculus.proofs.EqualityLaws.{Equal-from-head, head-from-Equal, head-reached}
 use Rattle.theorem.specs.Opening.{Open-walks-satisfy}
 use Rattle.theorem.proofs.Standing.{Standing, placed-standing}
-use Rattle.theorem.proofs.SenseLaws.{entry-as-says, first-is-top, row-passes, sense-as, sense-complement}
+use Rattle.theorem.proofs.TableSound.{row-passes}
+use Rattle.theorem.proofs.SenseLaws.{entry-as-says, first-is-top, sense-as, sense-complement}
 use Rattle.theorem.proofs.TruthOnWalks.{held-complement-is-false, held-is-true}
 use Rattle.theorem.proofs.WalkLaws.{Beside, head-walk, held-of-equal, joins-of-equal, joinsWalks-cases, joinsWalks-one, no-empty-walk, walk-first, walk-not-blocked, walk-within}
 
@@ -143,13 +144,13 @@ module _ (m : Meaning) (b : Branch) (range : InRange m) (some-individual : 1 ≤
 
   assertion-in-range : (n : ℕ) (a : Assertion) → rowAt (m .assertions) n ≡ Ok a → assertionInRange (countsOf m) a ≡ true
   assertion-in-range n a q =
-      row-passes (assertionInRange (countsOf m)) (rowAt (m .assertions) n) a q (range .assertions n (rowAt-found (m .assertions) n a q))
+      row-passes (λ _. assertionInRange (countsOf m)) (m .assertions) n a q (range .assertions n (rowAt-found (m .assertions) n a q))
 
   -- inclusions
 
   inclusion-in-range : (n : ℕ) (i : Inclusion) → rowAt (m .inclusions) n ≡ Ok i → inclusionInRange (countsOf m) i ≡ true
   inclusion-in-range n i q =
-      row-passes (inclusionInRange (countsOf m)) (rowAt (m .inclusions) n) i q (range .inclusions n (rowAt-found (m .inclusions) n i q))
+      row-passes (λ _. inclusionInRange (countsOf m)) (m .inclusions) n i q (range .inclusions n (rowAt-found (m .inclusions) n i q))
 
   included : (n : ℕ) (i : Inclusion) → rowAt (m .inclusions) n ≡ Ok i → Included (walks m b) (i .sub) (i .sup)
   included n i q [] h t = absurd (no-empty-walk m b h)
@@ -201,7 +202,7 @@ module _ (m : Meaning) (b : Branch) (range : InRange m) (some-individual : 1 ≤
       (holds .keys-decided n c d pairs (individual u) (individual u′) q lu lu′ values)
 
   key-in-range : (n : ℕ) (k : Key) → rowAt (m .keys) n ≡ Ok k → keyInRange (countsOf m) k ≡ true
-  key-in-range n k q = row-passes (keyInRange (countsOf m)) (rowAt (m .keys) n) k q (range .keys n (rowAt-found (m .keys) n k q))
+  key-in-range n k q = row-passes (λ _. keyInRange (countsOf m)) (m .keys) n k q (range .keys n (rowAt-found (m .keys) n k q))
 
   link-keyed : (n : ℕ) (c d : Concept) (pairs : RolePairs) → rowAt (m .keys) n ≡ Ok (Link c d pairs) → Keyed (walks m b) c d (pairList pairs)
   unfolding Near
