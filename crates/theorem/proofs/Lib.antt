@@ -9,6 +9,7 @@ pub mod PlacedEqual
 pub mod PlacedRows
 pub mod PlacedTable
 pub mod Reassigned
+pub mod RunFits
 pub mod RunPlaced
 pub mod RunSound
 pub mod SenseLaws

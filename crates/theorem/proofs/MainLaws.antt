@@ -32,6 +32,7 @@ use Rattle.theorem.specs.Asking.{Asked, Unsatisfiable}
 use Rattle.theorem.specs.MainTheorem.{FindingHolds, FoundExactly, Main-theorem}
 use Rattle.theorem.proofs.Accepting.{cond-Ok}
 use Rattle.theorem.proofs.AskingLaws.{closed-entails, open-breaks}
+use Rattle.theorem.proofs.RunFits.{run-fits}
 use Rattle.theorem.proofs.RunPlaced.{run-placed}
 use Rattle.theorem.proofs.RunSound.{closed-is-sound, run-in-range}
 use Rattle.theorem.proofs.WalksSatisfy.{open-walks-satisfy}
@@ -75,8 +76,14 @@ module _ (m : Meaning) (scratch : ℕ) (s : State) where
   open-from : (fits m s ≡ true) × (1024 ≤ scratch) × (s .numbers .closed ≡ false) × Conditions m (branch s) → review m scratch s ≡ Ok Open
   open-from (f, l, c, h) = rw (f, le-leb 1024 scratch l, c, lowestFailing-none m (branch s) .1 h)
 
-  pub found-exactly : FoundExactly m scratch s
-  found-exactly = record { closed = (closed-means, closed-from); open-sheet = (open-means, open-from) }
+pub found-exactly : (m : Meaning) (s : State) → Run m s → (scratch : ℕ) → FoundExactly m scratch s
+found-exactly m s run scratch =
+    let own = run-fits m s run in
+    record {
+      own = own;
+      closed = (λ e. let h = closed-means m scratch s e in (h .1, h .2), λ h. closed-from m scratch s (own, h .0, h .1));
+      open-sheet = (λ e. let h = open-means m scratch s e in (h .1, h .2, h .3), λ h. open-from m scratch s (own, h .0, h .1, h .2));
+    }
 
 -- a base over which there is a run has sizes that are accepted
 opening-sizes : (m : Meaning) (l : Ledgers) (s : State) → opening m l ≡ Ok s → sizesAccepted (countsOf m) ≡ true
@@ -134,4 +141,4 @@ module _ (m : Meaning) (s : State) (run : Run m s) where
   finding-holds scratch Open e = open-holds (open-means m scratch s e .3)
 
 pub main-theorem : Main-theorem
-main-theorem m s run scratch = (found-exactly m scratch s, finding-holds m s run scratch)
+main-theorem m s run scratch = (found-exactly m s run scratch, finding-holds m s run scratch)

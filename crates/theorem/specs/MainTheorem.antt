@@ -40,13 +40,12 @@ pub record FindingHolds (m : Meaning) (s : State) (f : Finding) : Type 0 where
   pub of-base : SaysOfBase m s f
   pub of-statement : (lower : Meaning) (st : Statement) → InRange lower → m ≡ asking lower st → SaysOfStatement lower st m s f
 
--- When review finds closed and when it finds open, in words: the base and the rows are the sheet's, the scratch suffices,
--- and the sheet is closed; or it is not, and the eight conditions hold.
+-- When review finds closed and when it finds open, in words: the scratch suffices, and the sheet is closed; or it is not,
+-- and the eight conditions hold. Base and ledgers are the sheet's, so that nothing is refused with 5.
 pub record FoundExactly (m : Meaning) (scratch : ℕ) (s : State) : Type 0 where
-  pub closed : (review m scratch s ≡ Ok Closed) ↔ ((fits m s ≡ true) × (1024 ≤ scratch) × (s .numbers .closed ≡ true))
-  pub open-sheet :
-      (review m scratch s ≡ Ok Open)
-      ↔ ((fits m s ≡ true) × (1024 ≤ scratch) × (s .numbers .closed ≡ false) × Conditions m (branch s))
+  pub own : fits m s ≡ true
+  pub closed : (review m scratch s ≡ Ok Closed) ↔ ((1024 ≤ scratch) × (s .numbers .closed ≡ true))
+  pub open-sheet : (review m scratch s ≡ Ok Open) ↔ ((1024 ≤ scratch) × (s .numbers .closed ≡ false) × Conditions m (branch s))
 
 -- Over every base and on every sheet that is reached by a run, review finds closed or open exactly where it should, and
 -- whatever it finds holds.
