@@ -6,6 +6,7 @@ pub mod Examples
 pub mod Faults
 pub mod HeldLaws
 pub mod Holding
+pub mod Likeness
 pub mod Playing
 pub mod Review
 pub mod Runs

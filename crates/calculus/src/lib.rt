@@ -4,6 +4,7 @@
 pub mod fault;
 pub mod laws;
 pub mod lengths;
+pub mod likeness;
 pub mod review;
 pub mod rows;
 pub mod shape;

@@ -1,2 +1,1 @@
--- What the contracts and ghost members cite.
-pub mod Likeness
+pub mod Finding

@@ -1,23 +1,23 @@
-// Plays a table of cases on ledgers of two kinds of record, and prints a line for each.
+// Plays a table of cases on ledgers of two kinds of row, and prints a line for each.
 ghost use Rattle.ledger.specs.Books.{book, size};
-ghost use Rattle.ledger_tests.specs.Likeness.{FoundBy};
+ghost use Rattle.ledger_tests.specs.Finding.{FoundBy};
 ghost use Prim.Native.Nat.{_<_};
 ghost use lib.ListN.{length};
 
 mod cases;
 mod records;
 
+use calculus::likeness::AlikeConceptRows;
+use calculus::likeness::AlikeRoleRows;
+use calculus::rows::ConceptRow;
+use calculus::rows::RoleRow;
 use cases::CASES;
 use cases::Case;
 use ledger::Alike;
 use ledger::Ledger;
 use records::Numbered;
-use records::Pair;
-use records::PairAlike;
-use records::PairNumbered;
-use records::Tagged;
-use records::TaggedAlike;
-use records::TaggedNumbered;
+use records::NumberedConceptRow;
+use records::NumberedRoleRow;
 use std::io;
 
 /// What a ledger answered: the two last are the first alike the record sought, and the same from 0 once that is appended.
@@ -102,10 +102,10 @@ fn report<T: Copy + Alike + Numbered>(
 
 fn main(rt: LibcRuntime) -> io::Result<()> {
     for case in &CASES {
-        let mut tagged = vec![in rt.alloc(); Tagged::nth(0); case.slots]?;
-        report(&rt, &mut tagged, "by tag", case)?;
-        let mut pairs = vec![in rt.alloc(); Pair::nth(0); case.slots]?;
-        report(&rt, &mut pairs, "by both fields", case)?;
+        let mut concepts = vec![in rt.alloc(); ConceptRow::nth(0); case.slots]?;
+        report(&rt, &mut concepts, "concept rows", case)?;
+        let mut roles = vec![in rt.alloc(); RoleRow::nth(0); case.slots]?;
+        report(&rt, &mut roles, "role rows", case)?;
     }
     Ok(())
 }

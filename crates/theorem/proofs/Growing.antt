@@ -10,7 +10,7 @@ use lib.ListN.{length, take}
 use Rattle.std.specs.declared.option.Option.the-variants.{Some, None}
 use Rattle.std.specs.declared.result.Result.the-variants.{Ok, Err}
 use Rattle.std.proofs.shelf.Elements.{all-append}
-use Rattle.std.proofs.shelf.Lists.{append-assoc, append-nil, reverse-append, take-append-le}
+use Rattle.std.proofs.shelf.Lists.{append-assoc, append-nil, reverse-append, take-all, take-append-le}
 use Rattle.std.proofs.shelf.Tests.{cases-bool, cond-both, cond-false, cond-true, ltb-true}
 use Rattle.std.specs.shelf.Lists.{All}
 use Rattle.kb.specs.declared.axioms.Assertion.{Assertion}
@@ -99,6 +99,21 @@ pub record Within (b : Branch) (p : PendingRow) : Type 0 where
 abbrev pub cutBranch : PendingRow → Branch → Branch
 cutBranch p b =
     record { concepts = take (p .concepts) (b .concepts); roles = take (p .roles) (b .roles); pairs = take (p .pairs) (b .pairs); individuals = p .individuals }
+
+-- The right side of a split, noted with the lengths of the branch: cutting back to it gives the branch again.
+abbrev pub noted : Branch → ConceptRow → PendingRow
+noted b side = record { side = side; concepts = length (b .concepts); roles = length (b .roles); pairs = length (b .pairs); individuals = b .individuals }
+
+pub cut-noted : (b : Branch) (side : ConceptRow) → cutBranch (noted b side) b ≡ b
+cut-noted b side = λ i. record {
+  concepts = take-all (length (b .concepts)) (b .concepts) (omega arith) i;
+  roles = take-all (length (b .roles)) (b .roles) (omega arith) i;
+  pairs = take-all (length (b .pairs)) (b .pairs) (omega arith) i;
+  individuals = b .individuals;
+}
+
+pub within-noted : (b : Branch) (side : ConceptRow) → Within b (noted b side)
+within-noted b side = record { concepts = omega arith; roles = omega arith; pairs = omega arith }
 
 -- A branch with a side behind its concept rows, unless it is held.
 abbrev pub withSide : Meaning → ConceptRow → Branch → Branch

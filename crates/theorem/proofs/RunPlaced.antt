@@ -11,7 +11,6 @@ use Rattle.std.specs.declared.option.Option.{Option}
 use Rattle.std.specs.declared.option.Option.the-variants.{Some, None}
 use Rattle.std.specs.declared.result.Result.{Result}
 use Rattle.std.specs.declared.result.Result.the-variants.{Ok, Err}
-use Rattle.std.proofs.shelf.Lists.{take-all}
 use Rattle.std.proofs.shelf.Tests.{and-parts, cases-bool, cond-false, cond-true}
 use Rattle.std.specs.shelf.Lists.{All}
 use Rattle.kb.specs.declared.axioms.Assertion.{Assertion}
@@ -36,7 +35,7 @@ use Rattle.calculus.specs.Runs.{Run, start, step}
 use Rattle.calculus.specs.States.{Ledgers, State, branch, branchOf, every, fits}
 use Rattle.calculus.specs.Table.{Rule, andThen, rule}
 use Rattle.theorem.proofs.Accepting.{Err-not-Ok, Ok-injective, andThen-Ok, cond-Ok}
-use Rattle.theorem.proofs.Growing.{Grown, Within, cut-grown, cutBranch, grown-withSide, lastOf-Some, push-rows, reopened, reopened-grown, reverse-push, withSide, writeMissing-grown, writeMissing-keeps, writeMissing-side}
+use Rattle.theorem.proofs.Growing.{cut-grown, cut-noted, cutBranch, Grown, grown-withSide, lastOf-Some, noted, push-rows, reopened, reopened-grown, reverse-push, Within, within-noted, withSide, writeMissing-grown, writeMissing-keeps, writeMissing-side}
 use Rattle.theorem.proofs.PlacedEqual.{new-alone-right}
 use Rattle.theorem.proofs.PlacedRows.{Placeable, placed-new, side-placed, write-placed}
 use Rattle.theorem.proofs.PlacedTable.{Line, adds-held, adds-new, adds-rows, closes, splits, table-placed}
@@ -136,21 +135,6 @@ module _ (m : Meaning) where
         (sym (push-rows row (l .roles) (q .0))) (placed-new m (branch s) r x (placed .now) hr hx) in
         writeMissing-keeps m (n + 1) (λ u. Placed m (branchOf u (n + 1))) (Placeable m (n + 1)) (write-placed m (n + 1)) (Is d new ∷ []) ((hd, omega arith), tt) w′ v k (q .1)
 
-    -- The right side of a split, noted with the lengths of the branch.
-    abbrev noted : ConceptRow → PendingRow
-    noted side = record { side = side; concepts = length (l .concepts .rows); roles = length (l .roles .rows); pairs = length (l .pairs .rows); individuals = n }
-
-    cut-noted : (side : ConceptRow) → cutBranch (noted side) (branch s) ≡ branch s
-    cut-noted side = λ i. record {
-      concepts = take-all (length (l .concepts .rows)) (l .concepts .rows) (omega arith) i;
-      roles = take-all (length (l .roles .rows)) (l .roles .rows) (omega arith) i;
-      pairs = take-all (length (l .pairs .rows)) (l .pairs .rows) (omega arith) i;
-      individuals = n;
-    }
-
-    within-noted : (side : ConceptRow) → Within (branch s) (noted side)
-    within-noted side = record { concepts = omega arith; roles = omega arith; pairs = omega arith }
-
     -- a split: the branch goes on with the left side, and its right side is noted
     split-placed :
         (side : ConceptRow) (facts : List Assertion) (v : Written) → All (Placeable m n) facts → Placeable m n (Is (side .concept) (side .individual))
@@ -164,9 +148,9 @@ module _ (m : Meaning) where
         let c = withSide m side b in
         let grown : Grown b b′ = let u = g .branch n n in record { concepts = u .concepts; roles = u .roles; pairs = u .pairs } in
         let room = and-parts (free (l .pending)) (free (l .concepts)) places in
-        let order : reverse (v .ledgers .pending .rows) ≡ noted side ∷ stack s =
-        ap (λ ps. reverse (ps .rows)) (g .pending) ∙ ap reverse (push-rows (noted side) (l .pending) (room .0)) ∙ reverse-push (l .pending .rows) (noted side) in
-        let takes-up : reopened m (noted side) b′ ≡ c = ap (withSide m side) (cut-grown b b′ (noted side) grown (within-noted side) ∙ cut-noted side) in
+        let order : reverse (v .ledgers .pending .rows) ≡ noted (branch s) side ∷ stack s =
+        ap (λ ps. reverse (ps .rows)) (g .pending) ∙ ap reverse (push-rows (noted (branch s) side) (l .pending) (room .0)) ∙ reverse-push (l .pending .rows) (noted (branch s) side) in
+        let takes-up : reopened m (noted (branch s) side) b′ ≡ c = ap (withSide m side) (cut-grown b b′ (noted (branch s) side) grown (within-noted (branch s) side) ∙ cut-noted (branch s) side) in
         let right : Placed m c × PendingPlaced c (stack s) =
         (side-placed m b side (placed .now) (hs .0) (hs .1), grown-pending b c (stack s) (grown-withSide m side b) within (placed .pending)) in
         record {

@@ -12,7 +12,6 @@ use Rattle.std.specs.declared.option.Option.{Option}
 use Rattle.std.specs.declared.option.Option.the-variants.{Some, None}
 use Rattle.std.specs.declared.result.Result.{Result}
 use Rattle.std.specs.declared.result.Result.the-variants.{Ok, Err}
-use Rattle.std.proofs.shelf.Lists.{take-all}
 use Rattle.std.proofs.shelf.Tests.{and-parts, both-ways, cond-both, cond-true}
 use Rattle.std.specs.shelf.Lists.{All}
 use Rattle.kb.proofs.CheckLaws.{checked-means}
@@ -32,7 +31,7 @@ use Rattle.calculus.specs.Runs.{Run, lengthsAccepted, opening, start, step}
 use Rattle.calculus.specs.States.{Ledgers, State, branch, branchOf, every, fits, rowsFit, sizesOf}
 use Rattle.calculus.specs.Table.{Rule, andThen, rule}
 use Rattle.theorem.proofs.Accepting.{Ok-injective, andThen-Ok, cond-Ok}
-use Rattle.theorem.proofs.Growing.{Grown, Within, cut-grown, cutBranch, grown-withSide, lastOf-None, lastOf-Some, push-rows, reopened, reopened-grown, reverse-push, withSide, writeMissing-grown, writeMissing-side}
+use Rattle.theorem.proofs.Growing.{cut-grown, cut-noted, cutBranch, Grown, grown-withSide, lastOf-None, lastOf-Some, noted, push-rows, reopened, reopened-grown, reverse-push, Within, within-noted, withSide, writeMissing-grown, writeMissing-side}
 use Rattle.theorem.proofs.SheetFits.{all-within, rows-agree, rows-fit}
 use Rattle.theorem.proofs.TableSound.{Agree, Assigns, Continues, Follows, SideTrue, table-sound}
 use Rattle.theorem.proofs.Truth.{ConceptTrue, RowsTrue, needs-true}
@@ -114,21 +113,6 @@ module _ (I : Interpretation) (m : Meaning) where
     within : All (Within (branch s)) (stack s)
     within = all-within (s .numbers .base) n l n fit-rows
 
-    -- The right side of a split, noted with the lengths of the branch.
-    abbrev noted : ConceptRow → PendingRow
-    noted side = record { side = side; concepts = length (l .concepts .rows); roles = length (l .roles .rows); pairs = length (l .pairs .rows); individuals = n }
-
-    cut-noted : (side : ConceptRow) → cutBranch (noted side) (branch s) ≡ branch s
-    cut-noted side = λ i. record {
-      concepts = take-all (length (l .concepts .rows)) (l .concepts .rows) (omega arith) i;
-      roles = take-all (length (l .roles .rows)) (l .roles .rows) (omega arith) i;
-      pairs = take-all (length (l .pairs .rows)) (l .pairs .rows) (omega arith) i;
-      individuals = n;
-    }
-
-    within-noted : (side : ConceptRow) → Within (branch s) (noted side)
-    within-noted side = record { concepts = omega arith; roles = omega arith; pairs = omega arith }
-
     -- a true side may be written
     side-satisfied : (side : ConceptRow) (at : ℕ → List ℕ) → Assigns I m n at → RowsTrue I at (branch s) → ConceptTrue I at side → Satisfied (withSide m side (branch s)) at
     side-satisfied side at h t q =
@@ -172,10 +156,10 @@ module _ (I : Interpretation) (m : Meaning) where
           let b′ = branchOf (v .ledgers) after in
           let grown : Grown (branch s) b′ = let h = g .branch n after in record { concepts = h .concepts; roles = h .roles; pairs = h .pairs } in
           let places = and-parts (free (l .pending)) (free (l .concepts)) room in
-          let pending : reverse (v .ledgers .pending .rows) ≡ noted side ∷ stack s =
-          ap (λ ps. reverse (ps .rows)) (g .pending) ∙ ap reverse (push-rows (noted side) (l .pending) (places .0)) ∙ reverse-push (l .pending .rows) (noted side) in
+          let pending : reverse (v .ledgers .pending .rows) ≡ noted (branch s) side ∷ stack s =
+          ap (λ ps. reverse (ps .rows)) (g .pending) ∙ ap reverse (push-rows (noted (branch s) side) (l .pending) (places .0)) ∙ reverse-push (l .pending .rows) (noted (branch s) side) in
           subst (SomeSatisfiable b′) (sym pending)
-          (split-satisfiable (branch s) b′ (noted side) (stack s) grown (within-noted side) (cut-noted side) within
+          (split-satisfiable (branch s) b′ (noted (branch s) side) (stack s) grown (within-noted (branch s) side) (cut-noted (branch s) side) within
           (λ f. let at = f .0 in let h = f .1 in
           let next = goes-on at h .next in
           let t = next-rows at h in
