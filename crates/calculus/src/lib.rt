@@ -1,5 +1,6 @@
 // The calculus: what a sheet's rows, steps and refusals are, and by its definitions and laws what every call on a sheet
 // does. Hardly any running code belongs here.
+#![tactic(auto)]
 
 pub mod fault;
 pub mod laws;

@@ -1,4 +1,6 @@
 // Case files whole and broken, at each limit and just beyond it: what is said of each.
+#![tactic(auto)]
+
 use casefile::file::CaseFile;
 use inspect::report::inspect;
 use kb::check::check_base;

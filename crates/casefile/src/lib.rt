@@ -1,4 +1,5 @@
 // Case files: a base in bytes, two a number, the higher first. Nothing of sheets or printing belongs here.
+#![tactic(auto)]
 
 pub mod fault;
 pub mod file;

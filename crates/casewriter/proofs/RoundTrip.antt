@@ -114,10 +114,10 @@ module _ (m : Meaning) where
   listed_case : InRange m → listed (counts_of m) (case_numbers m) ≡ m
   listed_case a =
       let n = counts_of m in
-      let e = ap (rows_from 3 read_entry n.entries) from_entries ∙ read_rows entry_numbers 3 read_entry (entry_in_range n) length_entry (read_entry_lem n) m.entries a.lexicon _ in
-      let s = ap (rows_from 4 read_assertion n.assertions) from-assertions ∙ read_rows assertion_numbers 4 read_assertion (λ _. assertion_in_range n) length_assertion (λ r _. read_assertion_lem n r) m.assertions a.rows.assertions _ in
-      let i = ap (rows_from 2 read_inclusion n.inclusions) from-inclusions ∙ read_rows inclusion_numbers 2 read_inclusion (λ _. inclusion_in_range n) length_inclusion (λ r _. read_inclusion_lem n r) m.inclusions a.rows.inclusions _ in
-      let k = ap (rows_from 11 read_key n.keys) from-keys ∙ read_rows key_numbers 11 read_key (λ _. key_in_range n) length_key (λ r _. read_key_lem n r) m.keys a.rows.keys _ in
+      let e = ap (rows_from 3 read_entry n.entries) from_entries ∙ read_rows entry_numbers 3 read_entry (entry_in_range n) length_entry (read_entry_lem n) m.entries a.entries _ in
+      let s = ap (rows_from 4 read_assertion n.assertions) from-assertions ∙ read_rows assertion_numbers 4 read_assertion (λ _. assertion_in_range n) length_assertion (λ r _. read_assertion_lem n r) m.assertions a.assertions _ in
+      let i = ap (rows_from 2 read_inclusion n.inclusions) from-inclusions ∙ read_rows inclusion_numbers 2 read_inclusion (λ _. inclusion_in_range n) length_inclusion (λ r _. read_inclusion_lem n r) m.inclusions a.inclusions _ in
+      let k = ap (rows_from 11 read_key n.keys) from-keys ∙ read_rows key_numbers 11 read_key (λ _. key_in_range n) length_key (λ r _. read_key_lem n r) m.keys a.keys _ in
       λ j. record { entries = e j; roles = m.roles; individuals = m.individuals; assertions = s j; inclusions = i j; keys = k j }
 
   -- every number of a file can be told

@@ -40,8 +40,8 @@ fn put_header(counts: &Counts, out: &mut [u8]) -> usize
 // Row k of a list; nothing if there is no such row.
 fn put_row<B: Base>(base: &B, list: RowList, k: usize, out: &mut [u8]) -> usize
     requires { 2 * width_of list ≤ length out.old }
-    ensures size { result ≡ length (bytes_of (row_numbers (meaning base.now) list k)) }
-    ensures bytes { out.new ≡ over (bytes_of (row_numbers (meaning base.now) list k)) out.old }
+    ensures size { result ≡ length (bytes_of (row_numbers (B.meaning base.now) list k)) }
+    ensures bytes { out.new ≡ over (bytes_of (row_numbers (B.meaning base.now) list k)) out.old }
 {
     match list {
         RowList::Entries => match base.entry(k) {
@@ -65,10 +65,10 @@ fn put_row<B: Base>(base: &B, list: RowList, k: usize, out: &mut [u8]) -> usize
 
 // The rows of a list.
 fn put_rows<B: Base>(base: &B, counts: &Counts, list: RowList, out: &mut [u8]) -> usize
-    requires counts_value { counts.now ≡ counts_of (meaning base.now) }
-    requires list_in_bounds { length (bytes_of (section_numbers (meaning base.now) list)) ≤ length out.old }
-    ensures size { result ≡ length (bytes_of (section_numbers (meaning base.now) list)) }
-    ensures bytes { out.new ≡ over (bytes_of (section_numbers (meaning base.now) list)) out.old }
+    requires counts_value { counts.now ≡ counts_of (B.meaning base.now) }
+    requires list_in_bounds { length (bytes_of (section_numbers (B.meaning base.now) list)) ≤ length out.old }
+    ensures size { result ≡ length (bytes_of (section_numbers (B.meaning base.now) list)) }
+    ensures bytes { out.new ≡ over (bytes_of (section_numbers (B.meaning base.now) list)) out.old }
 {
     let mut at = 0;
     for k in 0..counts.of(list) {
@@ -85,20 +85,20 @@ fn put_section<B: Base>(
     buffer: &mut [u8],
     at: usize,
 ) -> usize
-    requires counts_value { counts.now ≡ counts_of (meaning base.now) }
-    requires list_in_bounds { at + length (bytes_of (section_numbers (meaning base.now) list)) ≤ length buffer.old }
-    ensures end { result ≡ at + length (bytes_of (section_numbers (meaning base.now) list)) }
-    ensures bytes { buffer.new ≡ take at buffer.old ++ over (bytes_of (section_numbers (meaning base.now) list)) (drop at buffer.old) }
+    requires counts_value { counts.now ≡ counts_of (B.meaning base.now) }
+    requires list_in_bounds { at + length (bytes_of (section_numbers (B.meaning base.now) list)) ≤ length buffer.old }
+    ensures end { result ≡ at + length (bytes_of (section_numbers (B.meaning base.now) list)) }
+    ensures bytes { buffer.new ≡ take at buffer.old ++ over (bytes_of (section_numbers (B.meaning base.now) list)) (drop at buffer.old) }
 {
     at + put_rows(base, counts, list, &mut buffer[at..])
 }
 
 // The whole file. Answers how many bytes that took.
 pub(crate) fn put_case<B: Base>(base: &B, counts: &Counts, buffer: &mut [u8]) -> usize
-    requires counts_value { counts.now ≡ counts_of (meaning base.now) }
-    requires base_in_bounds { length (case_bytes (meaning base.now)) ≤ length buffer.old }
-    ensures size { result ≡ length (case_bytes (meaning base.now)) }
-    ensures bytes { buffer.new ≡ over (case_bytes (meaning base.now)) buffer.old }
+    requires counts_value { counts.now ≡ counts_of (B.meaning base.now) }
+    requires base_in_bounds { length (case_bytes (B.meaning base.now)) ≤ length buffer.old }
+    ensures size { result ≡ length (case_bytes (B.meaning base.now)) }
+    ensures bytes { buffer.new ≡ over (case_bytes (B.meaning base.now)) buffer.old }
 {
     let entries_at = put_header(counts, buffer);
     let assertions_at = put_section(base, counts, RowList::Entries, buffer, entries_at);

@@ -10,9 +10,9 @@ use kb::check::check_base;
 /// Writes an accepted base into the front of a buffer, and answers how many bytes that took. What lies behind them stays.
 /// A base that is not accepted is refused first, then a buffer that is too short; a refusal leaves the buffer as it was.
 pub fn write_case<B: Base>(base: &B, buffer: &mut [u8]) -> Result<usize, WriteFault>
-    ensures value { result ≡ write_answer (meaning base.now) buffer.old }
-    ensures bytes { buffer.new ≡ buffer_after (meaning base.now) buffer.old }
-    ensures means { Written (meaning base.now) buffer.old result buffer.new }
+    ensures value { result ≡ write_answer (B.meaning base.now) buffer.old }
+    ensures bytes { buffer.new ≡ buffer_after (B.meaning base.now) buffer.old }
+    ensures means { Written (B.meaning base.now) buffer.old result buffer.new }
 {
     let counts = check_base(base)?;
     if case_size(&counts) <= buffer.len() {

@@ -1,4 +1,6 @@
 // Writes the base of each case into a buffer of 0xee, and prints the answer and the whole buffer after it.
+#![tactic(auto)]
+
 mod cases;
 
 use casefile::file::CaseFile;

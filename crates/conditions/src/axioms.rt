@@ -14,7 +14,7 @@ use places::blocking::unless_blocked;
 
 // The first assertion that is not held.
 pub(crate) fn first_assertion<B: Base>(view: &View<'_, '_>, base: &B) -> Option<Failure>
-    ensures { result ≡ first_assertion (meaning base.now) (branch_in view.now) }
+    ensures { result ≡ first_assertion (B.meaning base.now) (branch_in view.now) }
 {
     for n in 0..base.counts().assertions {
         if let Some(f) = assertion_at(view, base, n) {
@@ -32,7 +32,7 @@ fn unblocked_at<B: Base>(
     row: Inclusion,
     x: Individual,
 ) -> Option<Failure>
-    ensures { result ≡ unless_blocked (meaning base.now) (branch_in view.now) x.0 (inclusion_at (meaning base.now) (branch_in view.now) n row x.0) }
+    ensures { result ≡ unless_blocked (B.meaning base.now) (branch_in view.now) x.0 (inclusion_at (B.meaning base.now) (branch_in view.now) n row x.0) }
 {
     unless_blocked(view, base, x, inclusion_at(view, base, n, row, x))
 }
@@ -44,7 +44,7 @@ fn first_of_inclusion<B: Base>(
     n: u16,
     row: Inclusion,
 ) -> Option<Failure>
-    ensures { result ≡ first_of_inclusion (meaning base.now) (branch_in view.now) n row }
+    ensures { result ≡ first_of_inclusion (B.meaning base.now) (branch_in view.now) n row }
 {
     for x in 0..view.individuals() {
         if let Some(f) = unblocked_at(view, base, n, row, Individual(x)) {
@@ -56,7 +56,7 @@ fn first_of_inclusion<B: Base>(
 
 // The same for row n of the inclusions.
 fn first_of_row<B: Base>(view: &View<'_, '_>, base: &B, n: u16) -> Option<Failure>
-    ensures { result ≡ at_row (first_of_inclusion (meaning base.now) (branch_in view.now) n) (row_at (meaning base.now).inclusions n) }
+    ensures { result ≡ at_row (first_of_inclusion (B.meaning base.now) (branch_in view.now) n) (row_at (B.meaning base.now).inclusions n) }
 {
     match base.inclusion(usize::from(n)) {
         Ok(row) => first_of_inclusion(view, base, n, row),
@@ -66,7 +66,7 @@ fn first_of_row<B: Base>(view: &View<'_, '_>, base: &B, n: u16) -> Option<Failur
 
 // The first inclusion and individual at which condition 5 fails.
 pub(crate) fn first_inclusion<B: Base>(view: &View<'_, '_>, base: &B) -> Option<Failure>
-    ensures { result ≡ first_inclusion (meaning base.now) (branch_in view.now) }
+    ensures { result ≡ first_inclusion (B.meaning base.now) (branch_in view.now) }
 {
     for n in 0..base.counts().inclusions {
         if let Some(f) = first_of_row(view, base, n) {

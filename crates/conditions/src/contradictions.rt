@@ -18,7 +18,7 @@ fn first_clash_between<B: Base>(
     c: Concept,
     d: Concept,
 ) -> Option<Failure>
-    ensures { result ≡ first_on_sheet (meaning base.now) (branch_in view.now) (clash_at (meaning base.now) (branch_in view.now) c d) }
+    ensures { result ≡ first_on_sheet (B.meaning base.now) (branch_in view.now) (clash_at (B.meaning base.now) (branch_in view.now) c d) }
 {
     for x in 0..view.individuals() {
         if let Some(f) = clash_at(view, base, c, d, Individual(x)) {
@@ -30,7 +30,7 @@ fn first_clash_between<B: Base>(
 
 // The same for the two concepts of entry k: none where one of them is held of nothing.
 fn first_clash_of<B: Base>(view: &View<'_, '_>, base: &B, k: u16) -> Option<Failure>
-    ensures { result ≡ first_on_sheet (meaning base.now) (branch_in view.now) (clash_at (meaning base.now) (branch_in view.now) (concept (2 * k)) (concept (2 * k + 1))) }
+    ensures { result ≡ first_on_sheet (B.meaning base.now) (branch_in view.now) (clash_at (B.meaning base.now) (branch_in view.now) (concept (2 * k)) (concept (2 * k + 1))) }
 {
     let c = concept_named(view, 2 * usize::from(k))?;
     let d = concept_named(view, 2 * usize::from(k) + 1)?;
@@ -38,7 +38,7 @@ fn first_clash_of<B: Base>(view: &View<'_, '_>, base: &B, k: u16) -> Option<Fail
 }
 
 fn first_clash<B: Base>(view: &View<'_, '_>, base: &B) -> Option<Failure>
-    ensures { result ≡ first_clash (meaning base.now) (branch_in view.now) }
+    ensures { result ≡ first_clash (B.meaning base.now) (branch_in view.now) }
 {
     for k in 0..base.counts().entries {
         if let Some(f) = first_clash_of(view, base, k) {
@@ -50,7 +50,7 @@ fn first_clash<B: Base>(view: &View<'_, '_>, base: &B) -> Option<Failure>
 
 // The first y that is different from x and equal.
 fn first_apart_from<B: Base>(view: &View<'_, '_>, base: &B, x: Individual) -> Option<Failure>
-    ensures { result ≡ first_on_sheet (meaning base.now) (branch_in view.now) (apart_at (meaning base.now) (branch_in view.now) x.0) }
+    ensures { result ≡ first_on_sheet (B.meaning base.now) (branch_in view.now) (apart_at (B.meaning base.now) (branch_in view.now) x.0) }
 {
     for y in 0..view.individuals() {
         if let Some(f) = apart_at(view, base, x, Individual(y)) {
@@ -61,7 +61,7 @@ fn first_apart_from<B: Base>(view: &View<'_, '_>, base: &B, x: Individual) -> Op
 }
 
 fn first_apart<B: Base>(view: &View<'_, '_>, base: &B) -> Option<Failure>
-    ensures { result ≡ first_apart (meaning base.now) (branch_in view.now) }
+    ensures { result ≡ first_apart (B.meaning base.now) (branch_in view.now) }
 {
     for x in 0..view.individuals() {
         if let Some(f) = first_apart_from(view, base, Individual(x)) {
@@ -73,7 +73,7 @@ fn first_apart<B: Base>(view: &View<'_, '_>, base: &B) -> Option<Failure>
 
 // The first place at which condition 1 fails: a clash, or, where there is none, two that are different and equal.
 pub(crate) fn first_contradiction<B: Base>(view: &View<'_, '_>, base: &B) -> Option<Failure>
-    ensures { result ≡ first_contradiction (meaning base.now) (branch_in view.now) }
+    ensures { result ≡ first_contradiction (B.meaning base.now) (branch_in view.now) }
 {
     match first_clash(view, base) {
         Some(f) => Some(f),

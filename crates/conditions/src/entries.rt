@@ -23,7 +23,7 @@ fn first_reached<B: Base>(
     d: Concept,
     x: Individual,
 ) -> Option<Failure>
-    ensures { result ≡ first_on_sheet (meaning base.now) (branch_in view.now) (reached_at (meaning base.now) (branch_in view.now) c r d x.0) }
+    ensures { result ≡ first_on_sheet (B.meaning base.now) (branch_in view.now) (reached_at (B.meaning base.now) (branch_in view.now) c r d x.0) }
 {
     for y in 0..view.individuals() {
         if let Some(f) = reached_at(view, base, c, r, d, x, Individual(y)) {
@@ -42,7 +42,7 @@ fn all_at<B: Base>(
     d: Concept,
     x: Individual,
 ) -> Option<Failure>
-    ensures { result ≡ all_at (meaning base.now) (branch_in view.now) c r d x.0 }
+    ensures { result ≡ all_at (B.meaning base.now) (branch_in view.now) c r d x.0 }
 {
     if view.held(base, &Assertion::Is(c, x)) {
         first_reached(view, base, c, r, d, x)
@@ -60,7 +60,7 @@ fn entry_at<B: Base>(
     row: Entry,
     x: Individual,
 ) -> Option<Failure>
-    ensures { result ≡ entry_at (meaning base.now) (branch_in view.now) which c row x.0 }
+    ensures { result ≡ entry_at (B.meaning base.now) (branch_in view.now) which c row x.0 }
 {
     match (which, row) {
         (EntryCondition::BothParts, Entry::Both(d, e)) => both_at(view, base, c, d, e, x),
@@ -80,7 +80,7 @@ fn unblocked_at<B: Base>(
     row: Entry,
     x: Individual,
 ) -> Option<Failure>
-    ensures { result ≡ unless_blocked (meaning base.now) (branch_in view.now) x.0 (entry_at (meaning base.now) (branch_in view.now) which c row x.0) }
+    ensures { result ≡ unless_blocked (B.meaning base.now) (branch_in view.now) x.0 (entry_at (B.meaning base.now) (branch_in view.now) which c row x.0) }
 {
     unless_blocked(view, base, x, entry_at(view, base, which, c, row, x))
 }
@@ -93,7 +93,7 @@ fn first_of_concept<B: Base>(
     c: Concept,
     row: Entry,
 ) -> Option<Failure>
-    ensures { result ≡ first_of_entry (meaning base.now) (branch_in view.now) which c.0 row }
+    ensures { result ≡ first_of_entry (B.meaning base.now) (branch_in view.now) which c.0 row }
 {
     for x in 0..view.individuals() {
         if let Some(f) = unblocked_at(view, base, which, c, row, Individual(x)) {
@@ -123,7 +123,7 @@ fn first_of_entry<B: Base>(
     k: u16,
     row: Entry,
 ) -> Option<Failure>
-    ensures { result ≡ first_of_entry (meaning base.now) (branch_in view.now) which (asked_of which k) row }
+    ensures { result ≡ first_of_entry (B.meaning base.now) (branch_in view.now) which (asked_of which k) row }
 {
     let c = concept_named(view, asked_of(which, k))?;
     first_of_concept(view, base, which, c, row)
@@ -136,7 +136,7 @@ fn first_of_row<B: Base>(
     which: EntryCondition,
     k: u16,
 ) -> Option<Failure>
-    ensures { result ≡ at_row (first_of_entry (meaning base.now) (branch_in view.now) which (asked_of which k)) (row_at (meaning base.now).entries k) }
+    ensures { result ≡ at_row (first_of_entry (B.meaning base.now) (branch_in view.now) which (asked_of which k)) (row_at (B.meaning base.now).entries k) }
 {
     match base.entry(usize::from(k)) {
         Ok(row) => first_of_entry(view, base, which, k, row),
@@ -150,7 +150,7 @@ pub(crate) fn first_of_entries<B: Base>(
     base: &B,
     which: EntryCondition,
 ) -> Option<Failure>
-    ensures { result ≡ first_of_entries (meaning base.now) (branch_in view.now) which }
+    ensures { result ≡ first_of_entries (B.meaning base.now) (branch_in view.now) which }
 {
     for k in 0..base.counts().entries {
         if let Some(f) = first_of_row(view, base, which, k) {

@@ -19,7 +19,7 @@ fn first_with<B: Base>(
     key: Key,
     x: Individual,
 ) -> Option<Failure>
-    ensures { result ≡ first_under (key_at (meaning base.now) (branch_in view.now) n key x.0) (meaning base.now).individuals }
+    ensures { result ≡ first_under (key_at (B.meaning base.now) (branch_in view.now) n key x.0) (B.meaning base.now).individuals }
 {
     for y in 0..base.counts().individuals {
         if let Some(f) = key_at(view, base, n, key, x, Individual(y)) {
@@ -30,7 +30,7 @@ fn first_with<B: Base>(
 }
 
 fn first_of_key<B: Base>(view: &View<'_, '_>, base: &B, n: u16, key: Key) -> Option<Failure>
-    ensures { result ≡ first_of_key (meaning base.now) (branch_in view.now) n key }
+    ensures { result ≡ first_of_key (B.meaning base.now) (branch_in view.now) n key }
 {
     for x in 0..base.counts().individuals {
         if let Some(f) = first_with(view, base, n, key, Individual(x)) {
@@ -42,7 +42,7 @@ fn first_of_key<B: Base>(view: &View<'_, '_>, base: &B, n: u16, key: Key) -> Opt
 
 // The same for row n of the keys.
 fn first_of_row<B: Base>(view: &View<'_, '_>, base: &B, n: u16) -> Option<Failure>
-    ensures { result ≡ at_row (first_of_key (meaning base.now) (branch_in view.now) n) (row_at (meaning base.now).keys n) }
+    ensures { result ≡ at_row (first_of_key (B.meaning base.now) (branch_in view.now) n) (row_at (B.meaning base.now).keys n) }
 {
     match base.key(usize::from(n)) {
         Ok(key) => first_of_key(view, base, n, key),
@@ -52,7 +52,7 @@ fn first_of_row<B: Base>(view: &View<'_, '_>, base: &B, n: u16) -> Option<Failur
 
 // The first key and two individuals at which condition 6 fails.
 pub(crate) fn first_key<B: Base>(view: &View<'_, '_>, base: &B) -> Option<Failure>
-    ensures { result ≡ first_key (meaning base.now) (branch_in view.now) }
+    ensures { result ≡ first_key (B.meaning base.now) (branch_in view.now) }
 {
     for n in 0..base.counts().keys {
         if let Some(f) = first_of_row(view, base, n) {

@@ -1,5 +1,7 @@
 // The conditions of review on the rows of a view: the first place at which one fails. Review tells its condition, and a search
 // mends it. What is asked at one place, and whatever changes rows, does not belong here.
+#![tactic(auto)]
+
 ghost use Rattle.failures.specs.Failures.{first_failure};
 ghost use Rattle.lookup.specs.Views.{branch_in};
 ghost use Rattle.std.specs.Prelude.{◌≡◌};
@@ -16,7 +18,7 @@ mod named;
 
 /// The first place at which a condition fails: the lowest condition that fails, and under it the least place.
 pub fn first_failure<B: Base>(view: &View<'_, '_>, base: &B) -> Option<Failure>
-    ensures { result ≡ first_failure (meaning base.now) (branch_in view.now) }
+    ensures { result ≡ first_failure (B.meaning base.now) (branch_in view.now) }
 {
     if let Some(f) = contradictions::first_contradiction(view, base) {
         return Some(f);

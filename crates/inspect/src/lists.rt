@@ -30,7 +30,7 @@ fn write_axiom_counts(out: &mut String, n: Counts) -> fmt::Result
 }
 
 fn write_row<B: Base>(out: &mut String, base: &B, list: RowList, k: u16) -> fmt::Result
-    ensures { Wrote result (string_bytes out.old) (row_text (meaning base.now) list k) (string_bytes out.new) }
+    ensures { Wrote result (string_bytes out.old) (row_text (B.meaning base.now) list k) (string_bytes out.new) }
 {
     match list {
         RowList::Entries => match base.entry(usize::from(k)) {
@@ -53,7 +53,7 @@ fn write_row<B: Base>(out: &mut String, base: &B, list: RowList, k: u16) -> fmt:
 }
 
 fn write_list<B: Base>(out: &mut String, base: &B, list: RowList) -> fmt::Result
-    ensures { Wrote result (string_bytes out.old) (list_text (meaning base.now) list) (string_bytes out.new) }
+    ensures { Wrote result (string_bytes out.old) (list_text (B.meaning base.now) list) (string_bytes out.new) }
 {
     for k in 0..base.counts().of(list) {
         write_row(out, base, list, k)?;
@@ -62,7 +62,7 @@ fn write_list<B: Base>(out: &mut String, base: &B, list: RowList) -> fmt::Result
 }
 
 pub(crate) fn write_base<B: Base>(out: &mut String, base: &B) -> fmt::Result
-    ensures { Wrote result (string_bytes out.old) (base_text (meaning base.now)) (string_bytes out.new) }
+    ensures { Wrote result (string_bytes out.old) (base_text (B.meaning base.now)) (string_bytes out.new) }
 {
     let counts = base.counts();
     write_name_counts(out, counts)?;

@@ -1,5 +1,7 @@
 // A base of records in columns, over lent slices: each record is of a class and has an issuer, a serial number and a
 // public key. Nothing of rules, sheets or file formats belongs here.
+#![tactic(auto)]
+
 ghost use Rattle.inventory.specs.Inventories.{contents_of, has_value, inventory_owed, inventory_meaning, listed, record_rows};
 ghost use Rattle.kb.specs.Telling.{tell_assertion, tell_entry};
 ghost use Rattle.rows.specs.Rows.{row_at};

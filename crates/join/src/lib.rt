@@ -1,5 +1,7 @@
 // A base that lists two bases together: the rows of the left, then those of the right, whose individuals come behind.
 // Nothing of sheets, steps or file formats belongs here.
+#![tactic(auto)]
+
 ghost use Rattle.join.specs.Joining.{join_owed, join_meaning, raised};
 ghost use Rattle.join.specs.Lexicons.{JoinChecked};
 ghost use Rattle.rows.specs.Rows.{row_at};

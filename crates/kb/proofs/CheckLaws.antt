@@ -1,15 +1,13 @@
 -- What the check of a base answers is what the words say.
-use Rattle.std.proofs.Common.{◌≡◌, ℕ, ◌<◌, Bool, true, false, cond, eqb, ◌⊎◌, List, [], ◌∷◌, Ok, Err, Result, sym, refl, ap, ◌∙◌, subst, inl, inr, ⊎_elim, arith}
+use Rattle.std.proofs.Common.{◌≡◌, ℕ, ◌<◌, true, false, cond, eqb, Ok, Err, Result, sym, refl, ap, ◌∙◌, subst, ⊎_elim, arith}
 use Rattle.std.proofs.lemmas.Bool.{cases_Bool, cases_order, both_ways}
-use Rattle.rows.specs.Rows.{refusal}
 use Rattle.kb.specs.declared.counts.Counts.{Counts}
 use Rattle.kb.specs.declared.fault.BaseFault.{BaseFault}
 use Rattle.kb.specs.declared.fault.BaseFault.TheVariants.{Size, Row}
 use Rattle.kb.specs.declared.fault.RowList.{RowList}
 use Rattle.kb.specs.declared.fault.RowList.TheVariants.{Entries, Assertions, Inclusions, Keys}
-use Rattle.kb.specs.First.{first_failing}
 use Rattle.kb.specs.Meanings.{Meaning, counts_of}
-use Rattle.kb.specs.Check.{list_number, base_fault_numbers, sizes_accepted, count_of, row_in_range, checked_list, and_then, checked_rows, checked_base, refused_at, ListInRange, InRange, FirstOutOfRange, Checked}
+use Rattle.kb.specs.Check.{list_number, sizes_accepted, count_of, row_in_range, checked_list, and_then, checked_rows, checked_base, ListInRange, InRange, FirstOutOfRange, Checked}
 use Rattle.kb.proofs.FirstLaws.{first_failing-none, first_failing-some, pass_or_fails}
 
 list_of : ℕ → RowList

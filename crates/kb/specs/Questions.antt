@@ -1,9 +1,8 @@
 -- The question whether a statement follows from a base: the base with assertions that deny the statement.
-use Rattle.std.specs.Prelude.{ℕ, suc, ◌+◌, List, [], ◌∷◌, ◌++◌, map, length}
+use Rattle.std.specs.Prelude.{ℕ, suc, ◌+◌, List, [], ◌∷◌, map, length}
 use Rattle.kb.specs.declared.axioms.Assertion.{Assertion}
 use Rattle.kb.specs.declared.axioms.Assertion.TheVariants.{Is, Joins, Different}
 use Rattle.kb.specs.declared.axioms.RolePair.{RolePair}
-use Rattle.kb.specs.declared.axioms.RolePairs.{RolePairs}
 use Rattle.kb.specs.declared.names.Individual.{Individual}
 use Rattle.kb.specs.declared.statement.Statement.{Statement}
 use Rattle.kb.specs.declared.statement.Statement.TheVariants.{Key, Inclusion, Same}

@@ -1,5 +1,5 @@
 -- When a row is in range: it is of a listed kind, and names only what the base has.
-use Rattle.std.specs.Prelude.{ℕ, ◌*◌, Bool, true, false, not, ◌&&◌, List, [], ◌∷◌, ◌==◌, nat_lt}
+use Rattle.std.specs.Prelude.{ℕ, Bool, true, false, not, ◌&&◌, List, [], ◌∷◌, ◌==◌, nat_lt}
 use Rattle.kb.specs.declared.axioms.Assertion.{Assertion}
 use Rattle.kb.specs.declared.axioms.Assertion.TheVariants.{Is, Joins, Same, Different, Unlisted as UnlistedAssertion}
 use Rattle.kb.specs.declared.axioms.Inclusion.{Inclusion}
@@ -7,7 +7,6 @@ use Rattle.kb.specs.declared.axioms.Key.{Key}
 use Rattle.kb.specs.declared.axioms.Key.TheVariants.{Link, Unlisted as UnlistedKey}
 use Rattle.kb.specs.declared.axioms.RolePair.{RolePair}
 use Rattle.kb.specs.declared.axioms.RolePairs.{RolePairs}
-use Rattle.kb.specs.declared.axioms.RolePairs.TheVariants.{One, Two, Three, Four}
 use Rattle.kb.specs.declared.counts.Counts.{Counts}
 use Rattle.kb.specs.declared.lexicon.Entry.{Entry}
 use Rattle.kb.specs.declared.lexicon.Entry.TheVariants.{Top, Name, Both, Some, Unlisted}

@@ -1,8 +1,8 @@
 -- What a base can tell: a number above 65,535 is told as 65,535, and a longer list is cut there.
-use Rattle.std.specs.Prelude.{◌≡◌, ℕ, min, List, [], ◌∷◌, ◌++◌, map, length, take}
+use Rattle.std.specs.Prelude.{ℕ, min, List, [], ◌∷◌, ◌++◌, map, take}
 use Rattle.std.proofs.Common.{arith, length-take}
 use Rattle.std.specs.List.{AllByRecursion as All}
-use Rattle.std.proofs.ByRecursion.{All-append, All-map, All-take}
+use Rattle.std.proofs.ByRecursion.{All-append, All-take}
 use Rattle.kb.specs.declared.axioms.Assertion.{Assertion}
 use Rattle.kb.specs.declared.axioms.Assertion.TheVariants.{Is, Joins, Same, Different, Unlisted as UnlistedAssertion}
 use Rattle.kb.specs.declared.axioms.Inclusion.{Inclusion}

@@ -35,7 +35,7 @@ impl Counts {
 
 // Whether row k of a list is there and in range.
 fn row_in_range<B: Base>(base: &B, counts: &Counts, list: RowList, k: usize) -> bool
-    ensures { result ≡ row_in_range counts.now (meaning base.now) list k }
+    ensures { result ≡ row_in_range counts.now (B.meaning base.now) list k }
 {
     match list {
         RowList::Entries => match base.entry(k) {
@@ -59,7 +59,7 @@ fn row_in_range<B: Base>(base: &B, counts: &Counts, list: RowList, k: usize) -> 
 
 // The first row of a list that is out of range.
 fn first_out_of_range<B: Base>(base: &B, counts: &Counts, list: RowList) -> Option<u16>
-    ensures { result ≡ first_failing (row_in_range counts.now (meaning base.now) list) (count_of counts.now list) }
+    ensures { result ≡ first_failing (row_in_range counts.now (B.meaning base.now) list) (count_of counts.now list) }
 {
     for k in 0..counts.of(list) {
         if !row_in_range(base, counts, list, usize::from(k)) {
@@ -70,7 +70,7 @@ fn first_out_of_range<B: Base>(base: &B, counts: &Counts, list: RowList) -> Opti
 }
 
 fn check_list<B: Base>(base: &B, counts: &Counts, list: RowList) -> Result<(), BaseFault>
-    ensures { result ≡ checked_list counts.now (meaning base.now) list }
+    ensures { result ≡ checked_list counts.now (B.meaning base.now) list }
 {
     match first_out_of_range(base, counts, list) {
         None => Ok(()),
@@ -80,7 +80,7 @@ fn check_list<B: Base>(base: &B, counts: &Counts, list: RowList) -> Result<(), B
 
 // The lists one after the other.
 fn check_rows<B: Base>(base: &B, counts: Counts) -> Result<Counts, BaseFault>
-    ensures { result ≡ checked_rows counts (meaning base.now) }
+    ensures { result ≡ checked_rows counts (B.meaning base.now) }
 {
     check_list(base, &counts, RowList::Entries)?;
     check_list(base, &counts, RowList::Assertions)?;
@@ -91,8 +91,8 @@ fn check_rows<B: Base>(base: &B, counts: Counts) -> Result<Counts, BaseFault>
 
 /// The counts of an accepted base, or why it is not accepted: a count outside its limits, else the first row out of range.
 pub fn check_base<B: Base>(base: &B) -> Result<Counts, BaseFault>
-    ensures value { result ≡ checked_base (meaning base.now) }
-    ensures means { Checked (meaning base.now) result }
+    ensures value { result ≡ checked_base (B.meaning base.now) }
+    ensures means { Checked (B.meaning base.now) result }
 {
     let counts = base.counts();
     if counts.accepted() {

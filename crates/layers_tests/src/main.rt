@@ -1,4 +1,6 @@
 // Plays cases on inventories and layers, and prints a line for each answer.
+#![tactic(auto)]
+
 mod limits;
 mod many;
 mod pile;

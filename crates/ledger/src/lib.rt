@@ -1,5 +1,7 @@
 // A ledger: rows of any one kind, kept in order in the first slots of a lent slice. It knows nothing of what a row is about;
 // nothing of bases, concepts or sheets belongs here.
+#![tactic(auto)]
+
 ghost use Rattle.ledger.specs.Books.{Appended, CutBack, Holds, admitted, book, cut, push, size, unused};
 ghost use Rattle.ledger.specs.Firsts.{Finds, FirstAlike, first_alike};
 ghost use Rattle.rows.specs.Rows.{RowAt, row_at};
@@ -89,8 +91,8 @@ impl<'a, T: Copy> Ledger<'a, T> {
 impl<'a, T: Copy + Alike> Ledger<'a, T> {
     /// The lowest place, at or after `from`, whose row is alike the one given.
     pub fn first_alike(&self, from: usize, row: &T) -> Option<usize>
-        ensures value { result ≡ first_alike alike (book self.now).rows from row.now }
-        ensures means { FirstAlike alike (book self.now).rows from row.now result }
+        ensures value { result ≡ first_alike T.alike (book self.now).rows from row.now }
+        ensures means { FirstAlike T.alike (book self.now).rows from row.now result }
         ensures finds { Finds (book self.now).rows from row.now result }
     {
         first_alike(self.rows(), from, row)
@@ -99,8 +101,8 @@ impl<'a, T: Copy + Alike> Ledger<'a, T> {
 
 /// The lowest place, at or after `from`, whose row is alike the one given.
 pub fn first_alike<T: Copy + Alike>(rows: &[T], from: usize, row: &T) -> Option<usize>
-    ensures value { result ≡ first_alike alike rows.now from row.now }
-    ensures means { FirstAlike alike rows.now from row.now result }
+    ensures value { result ≡ first_alike T.alike rows.now from row.now }
+    ensures means { FirstAlike T.alike rows.now from row.now result }
     ensures finds { Finds rows.now from row.now result }
 {
     for i in from..rows.len() {

@@ -1,4 +1,6 @@
 // Plays a table of cases on ledgers of two kinds of row, and prints a line for each.
+#![tactic(auto)]
+
 ghost use Rattle.ledger.specs.Books.{book, size};
 ghost use Rattle.ledger_tests.specs.Finding.{FoundBy};
 ghost use Rattle.std.specs.Prelude.{◌<◌, length};

@@ -1,5 +1,7 @@
 // The four ledgers of a sheet, taken together: what they hold, whether there is room, writing a fact, noting a right side,
 // and cutting back. Nothing of bases or of when a step is allowed belongs here.
+#![tactic(auto)]
+
 ghost use Rattle.calculus.specs.Playing.{cut_to, emptied, free, last_of, note as noted, noteable, room, write as written};
 ghost use Rattle.calculus.specs.States.{row_counts, sizes_of};
 ghost use Rattle.ledger.specs.Books.{book, unused};

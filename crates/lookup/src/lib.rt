@@ -1,5 +1,7 @@
 // The look-up: the heads of a branch's individuals, computed into lent numbers, and whether a fact is held. What is written
 // or refused does not belong here.
+#![tactic(auto)]
+
 ghost use Rattle.calculus.specs.Branches.{any, concept_row_holds, equal, held, pair_row_holds, role_row_holds};
 ghost use Rattle.calculus.specs.States.{every};
 ghost use Rattle.kb.specs.Meanings.{Meaning};
@@ -95,7 +97,7 @@ impl<'h, 'a> View<'h, 'a> {
 
     // Whether some row holds "r from x to y".
     fn some_role_row<B: Base>(&self, base: &B, role: Role, from: Individual, to: Individual) -> bool
-        ensures { result ≡ any (role_row_holds (B.Base.meaning base.now) (branch_in self.now) role from to) self.now.roles.now }
+        ensures { result ≡ any (role_row_holds (B.meaning base.now) (branch_in self.now) role from to) self.now.roles.now }
     {
         scan::some_passes(
             &RoleRowTest {
@@ -111,7 +113,7 @@ impl<'h, 'a> View<'h, 'a> {
 
     // Whether some row holds "x different from y".
     fn some_pair_row<B: Base>(&self, base: &B, x: Individual, y: Individual) -> bool
-        ensures { result ≡ any (pair_row_holds (B.Base.meaning base.now) (branch_in self.now) x y) self.now.pairs.now }
+        ensures { result ≡ any (pair_row_holds (B.meaning base.now) (branch_in self.now) x y) self.now.pairs.now }
     {
         scan::some_passes(
             &PairRowTest {
@@ -126,7 +128,7 @@ impl<'h, 'a> View<'h, 'a> {
 
     /// Whether a fact is held.
     pub fn held<B: Base>(&self, base: &B, fact: &Assertion) -> bool
-        ensures { result ≡ held (B.Base.meaning base.now) (branch_in self.now) fact.now }
+        ensures { result ≡ held (B.meaning base.now) (branch_in self.now) fact.now }
     {
         match *fact {
             Assertion::Is(c, x) => c.0 == 0 || self.some_concept_row(c, x),
@@ -139,7 +141,7 @@ impl<'h, 'a> View<'h, 'a> {
 
     /// Whether every fact is held.
     pub fn all_held<B: Base>(&self, base: &B, facts: &[Assertion]) -> bool
-        ensures { result ≡ every (held (B.Base.meaning base.now) (branch_in self.now)) facts.now }
+        ensures { result ≡ every (held (B.meaning base.now) (branch_in self.now)) facts.now }
     {
         scan::every_passes(&HeldTest { view: *self, base }, facts)
     }

@@ -13,7 +13,7 @@ use scan::Test;
 
 // Whether the role of a row holds the role that is asked for.
 fn role_holds<B: Base>(_base: &B, r: Role, s: Role) -> bool
-    ensures { result ≡ role_holds (B.Base.meaning _base.now) r s }
+    ensures { result ≡ role_holds (B.meaning _base.now) r s }
 {
     r.0 == s.0
 }

@@ -1,4 +1,6 @@
 // The program: it reads a case file and prints what a library says of it.
+#![tactic(auto)]
+
 use anyhow::anyhow;
 use inspect::report::inspect;
 use std::fs::File;

@@ -1,4 +1,6 @@
 // A question over rules over two joined inventories, written as a case file, read back and inspected.
+#![tactic(auto)]
+
 use casewriter::writer::write_case;
 use inspect::report::inspect;
 use inventory::{Columns, Inventory, Record};

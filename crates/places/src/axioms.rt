@@ -19,7 +19,7 @@ use lookup::view::View;
 
 /// A failure of condition 2, if there is an assertion n and it is not held.
 pub fn assertion_at<B: Base>(view: &View<'_, '_>, base: &B, n: u16) -> Option<Failure>
-    ensures { result ≡ assertion_at (meaning base.now) (branch_in view.now) n }
+    ensures { result ≡ assertion_at (B.meaning base.now) (branch_in view.now) n }
 {
     match base.assertion(usize::from(n)) {
         Ok(fact) => {
@@ -41,7 +41,7 @@ pub fn inclusion_at<B: Base>(
     row: Inclusion,
     x: Individual,
 ) -> Option<Failure>
-    ensures { result ≡ inclusion_at (meaning base.now) (branch_in view.now) n row x.0 }
+    ensures { result ≡ inclusion_at (B.meaning base.now) (branch_in view.now) n row x.0 }
 {
     if complement_held(view, base, row.sub, x) || is_held(view, base, row.sup, x) {
         None
@@ -58,7 +58,7 @@ fn share_value<B: Base>(
     y: Individual,
     pair: RolePair,
 ) -> bool
-    ensures { result ≡ share_value (meaning base.now) (branch_in view.now) x.0 y.0 pair }
+    ensures { result ≡ share_value (B.meaning base.now) (branch_in view.now) x.0 y.0 pair }
 {
     reaches(view, base, pair.left, x, Reached::From(pair.right, y))
 }
@@ -70,7 +70,7 @@ fn share_values<B: Base>(
     y: Individual,
     pairs: RolePairs,
 ) -> bool
-    ensures { result ≡ every (share_value (meaning base.now) (branch_in view.now) x.0 y.0) (pair_list pairs) }
+    ensures { result ≡ every (share_value (B.meaning base.now) (branch_in view.now) x.0 y.0) (pair_list pairs) }
 {
     match pairs {
         RolePairs::One(p) => share_value(view, base, x, y, p),
@@ -99,14 +99,14 @@ fn decided<B: Base>(
     x: Individual,
     y: Individual,
 ) -> bool
-    ensures { result ≡ (held (meaning base.now) (branch_in view.now) (Is (complement c) x) || (held (meaning base.now) (branch_in view.now) (Is (complement d) y) || equal (branch_in view.now).pairs x y)) }
+    ensures { result ≡ (held (B.meaning base.now) (branch_in view.now) (Is (complement c) x) || (held (B.meaning base.now) (branch_in view.now) (Is (complement d) y) || equal (branch_in view.now).pairs x y)) }
 {
     complement_held(view, base, c, x) || complement_held(view, base, d, y) || view.equal(x, y)
 }
 
 // Whether a key asks nothing more of x and y. Shared values are looked for last.
 fn key_kept<B: Base>(view: &View<'_, '_>, base: &B, key: Key, x: Individual, y: Individual) -> bool
-    ensures { result ≡ key_kept (meaning base.now) (branch_in view.now) key x.0 y.0 }
+    ensures { result ≡ key_kept (B.meaning base.now) (branch_in view.now) key x.0 y.0 }
 {
     match key {
         Key::Link(c, d, pairs) => decided(view, base, c, d, x, y)
@@ -124,7 +124,7 @@ pub fn key_at<B: Base>(
     x: Individual,
     y: Individual,
 ) -> Option<Failure>
-    ensures { result ≡ key_at (meaning base.now) (branch_in view.now) n key x.0 y.0 }
+    ensures { result ≡ key_at (B.meaning base.now) (branch_in view.now) n key x.0 y.0 }
 {
     if key_kept(view, base, key, x, y) {
         None

@@ -35,7 +35,7 @@ impl<B: Base> Test<ConceptRow> for CoveredTest<'_, '_, '_, B> {
 
 // Whether t holds every concept that s holds.
 fn covers<B: Base>(view: &View<'_, '_>, base: &B, t: Individual, s: Individual) -> bool
-    ensures { result ≡ covers (meaning base.now) (branch_in view.now) t.0 s.0 }
+    ensures { result ≡ covers (B.meaning base.now) (branch_in view.now) t.0 s.0 }
 {
     scan::every_passes(
         &CoveredTest {
@@ -50,14 +50,14 @@ fn covers<B: Base>(view: &View<'_, '_>, base: &B, t: Individual, s: Individual) 
 
 // Whether t is new and covers s.
 fn blocks<B: Base>(view: &View<'_, '_>, base: &B, s: Individual, t: Individual) -> bool
-    ensures { result ≡ blocks (meaning base.now) (branch_in view.now) s.0 t.0 }
+    ensures { result ≡ blocks (B.meaning base.now) (branch_in view.now) s.0 t.0 }
 {
     base.counts().individuals <= t.0 && covers(view, base, t, s)
 }
 
 // Whether an individual before s blocks it.
 fn some_blocks<B: Base>(view: &View<'_, '_>, base: &B, s: Individual) -> bool
-    ensures { result ≡ some_under (blocks (meaning base.now) (branch_in view.now) s.0) s.0 }
+    ensures { result ≡ some_under (blocks (B.meaning base.now) (branch_in view.now) s.0) s.0 }
 {
     for t in 0..s.0 {
         if blocks(view, base, s, Individual(t)) {
@@ -69,7 +69,7 @@ fn some_blocks<B: Base>(view: &View<'_, '_>, base: &B, s: Individual) -> bool
 
 /// Whether s is new, and a new individual before it holds every concept that s holds.
 pub fn blocked<B: Base>(view: &View<'_, '_>, base: &B, s: Individual) -> bool
-    ensures { result ≡ blocked (meaning base.now) (branch_in view.now) s.0 }
+    ensures { result ≡ blocked (B.meaning base.now) (branch_in view.now) s.0 }
 {
     base.counts().individuals <= s.0 && some_blocks(view, base, s)
 }
@@ -81,7 +81,7 @@ pub fn unless_blocked<B: Base>(
     x: Individual,
     found: Option<Failure>,
 ) -> Option<Failure>
-    ensures { result ≡ unless_blocked (meaning base.now) (branch_in view.now) x.0 found }
+    ensures { result ≡ unless_blocked (B.meaning base.now) (branch_in view.now) x.0 found }
 {
     match found {
         Some(f) => {

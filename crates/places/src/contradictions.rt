@@ -18,7 +18,7 @@ pub fn clash_at<B: Base>(
     d: Concept,
     x: Individual,
 ) -> Option<Failure>
-    ensures { result ≡ clash_at (meaning base.now) (branch_in view.now) c d x.0 }
+    ensures { result ≡ clash_at (B.meaning base.now) (branch_in view.now) c d x.0 }
 {
     if is_held(view, base, c, x) && is_held(view, base, d, x) {
         Some(Failure::Clash(c, x))
@@ -34,7 +34,7 @@ pub fn apart_at<B: Base>(
     x: Individual,
     y: Individual,
 ) -> Option<Failure>
-    ensures { result ≡ apart_at (meaning base.now) (branch_in view.now) x.0 y.0 }
+    ensures { result ≡ apart_at (B.meaning base.now) (branch_in view.now) x.0 y.0 }
 {
     if view.equal(x, y) && view.held(base, &Assertion::Different(x, y)) {
         Some(Failure::Apart(x, y))

@@ -15,7 +15,7 @@ use kb::names::{Concept, Individual, Role};
 use lookup::view::View;
 
 fn both_held<B: Base>(view: &View<'_, '_>, base: &B, d: Concept, e: Concept, x: Individual) -> bool
-    ensures { result ≡ (held (meaning base.now) (branch_in view.now) (Is d x) && held (meaning base.now) (branch_in view.now) (Is e x)) }
+    ensures { result ≡ (held (B.meaning base.now) (branch_in view.now) (Is d x) && held (B.meaning base.now) (branch_in view.now) (Is e x)) }
 {
     is_held(view, base, d, x) && is_held(view, base, e, x)
 }
@@ -29,7 +29,7 @@ pub fn both_at<B: Base>(
     e: Concept,
     x: Individual,
 ) -> Option<Failure>
-    ensures { result ≡ both_at (meaning base.now) (branch_in view.now) c d e x.0 }
+    ensures { result ≡ both_at (B.meaning base.now) (branch_in view.now) c d e x.0 }
 {
     if is_held(view, base, c, x) && !both_held(view, base, d, e, x) {
         Some(Failure::Both(c, x))
@@ -45,7 +45,7 @@ fn either_complement_held<B: Base>(
     e: Concept,
     x: Individual,
 ) -> bool
-    ensures { result ≡ (held (meaning base.now) (branch_in view.now) (Is (complement d) x) || held (meaning base.now) (branch_in view.now) (Is (complement e) x)) }
+    ensures { result ≡ (held (B.meaning base.now) (branch_in view.now) (Is (complement d) x) || held (B.meaning base.now) (branch_in view.now) (Is (complement e) x)) }
 {
     complement_held(view, base, d, x) || complement_held(view, base, e, x)
 }
@@ -59,7 +59,7 @@ pub fn either_at<B: Base>(
     e: Concept,
     x: Individual,
 ) -> Option<Failure>
-    ensures { result ≡ either_at (meaning base.now) (branch_in view.now) c d e x.0 }
+    ensures { result ≡ either_at (B.meaning base.now) (branch_in view.now) c d e x.0 }
 {
     if is_held(view, base, c, x) && !either_complement_held(view, base, d, e, x) {
         Some(Failure::Either(c, x))
@@ -78,7 +78,7 @@ pub fn reached_at<B: Base>(
     x: Individual,
     y: Individual,
 ) -> Option<Failure>
-    ensures { result ≡ reached_at (meaning base.now) (branch_in view.now) c r d x.0 y.0 }
+    ensures { result ≡ reached_at (B.meaning base.now) (branch_in view.now) c r d x.0 y.0 }
 {
     if view.held(base, &Assertion::Joins(r, x, y)) && !complement_held(view, base, d, y) {
         Some(Failure::All(c, x, y))
@@ -96,7 +96,7 @@ pub fn some_at<B: Base>(
     d: Concept,
     x: Individual,
 ) -> Option<Failure>
-    ensures { result ≡ some_at (meaning base.now) (branch_in view.now) c r d x.0 }
+    ensures { result ≡ some_at (B.meaning base.now) (branch_in view.now) c r d x.0 }
 {
     if is_held(view, base, c, x) && !reaches(view, base, r, x, Reached::In(d)) {
         Some(Failure::Some(c, x))

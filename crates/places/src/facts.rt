@@ -12,7 +12,7 @@ use lookup::view::View;
 
 // Whether c is held of x.
 pub(crate) fn is_held<B: Base>(view: &View<'_, '_>, base: &B, c: Concept, x: Individual) -> bool
-    ensures { result ≡ held (meaning base.now) (branch_in view.now) (Is c x) }
+    ensures { result ≡ held (B.meaning base.now) (branch_in view.now) (Is c x) }
 {
     view.held(base, &Assertion::Is(c, x))
 }
@@ -24,7 +24,7 @@ pub(crate) fn complement_held<B: Base>(
     c: Concept,
     x: Individual,
 ) -> bool
-    ensures { result ≡ held (meaning base.now) (branch_in view.now) (Is (complement c) x) }
+    ensures { result ≡ held (B.meaning base.now) (branch_in view.now) (Is (complement c) x) }
 {
     is_held(view, base, c.complement(), x)
 }

@@ -62,7 +62,7 @@ fn some_row_reaches<B: Base>(
     from: Individual,
     asked: Reached,
 ) -> bool
-    ensures { result ≡ any (row_reaches (meaning base.now) (branch_in view.now) role from asked) (branch_in view.now).roles }
+    ensures { result ≡ any (row_reaches (B.meaning base.now) (branch_in view.now) role from asked) (branch_in view.now).roles }
 {
     scan::some_passes(
         &ReachTest {
@@ -84,7 +84,7 @@ pub(crate) fn reaches<B: Base>(
     from: Individual,
     asked: Reached,
 ) -> bool
-    ensures { result ≡ reaches_some (meaning base.now) (branch_in view.now) role from asked }
+    ensures { result ≡ reaches_some (B.meaning base.now) (branch_in view.now) role from asked }
 {
     some_row_reaches(view, base, role, from, asked)
 }

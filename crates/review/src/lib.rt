@@ -1,5 +1,7 @@
 // Review of a sheet and its ending, with what they say of every interpretation of the base. Both only look at rows; nothing
 // that writes one belongs here.
+#![tactic(auto)]
+
 ghost use Rattle.std.specs.Prelude.{◌≡◌, ◌≤◌, true, length};
 ghost use Rattle.calculus.specs.Review.{found, lowest_failing};
 ghost use Rattle.calculus.specs.States.{branch_of, every};
@@ -23,7 +25,7 @@ use verdict::Verdict;
 fn find<B: Base>(base: &B, ledgers: &Ledgers<'_>, heads: &mut [u16]) -> Result<Finding, ReviewFault>
     requires few { length heads.old ≤ 65535 }
     requires named { every (names_below (length heads.old)) (ledgers_of ledgers.now).pairs.rows ≡ true }
-    ensures { result ≡ found (lowest_failing (meaning base.now) (branch_of (ledgers_of ledgers.now) (length heads.old))) }
+    ensures { result ≡ found (lowest_failing (B.meaning base.now) (branch_of (ledgers_of ledgers.now) (length heads.old))) }
 {
     let view = View::over(
         heads,
@@ -45,7 +47,7 @@ pub fn review<B: Base>(
     ledgers: &Ledgers<'_>,
     scratch: &mut [u16],
 ) -> Result<Finding, ReviewFault>
-    ensures { Reviewed (meaning base.now) (length scratch.old) (state_of sheet.now (ledgers_of ledgers.now)) result (state_of sheet.now (ledgers_of ledgers.now)) }
+    ensures { Reviewed (B.meaning base.now) (length scratch.old) (state_of sheet.now (ledgers_of ledgers.now)) result (state_of sheet.now (ledgers_of ledgers.now)) }
 {
     if !sheet.fits(base, ledgers) {
         return Err(ReviewFault::Changed);
@@ -63,7 +65,7 @@ pub fn review<B: Base>(
 /// The verdict on a sheet: what review finds or why it finds nothing, and the steps accepted since opening. It takes the sheet,
 /// so that nothing can be done with it afterwards.
 pub fn end<B: Base>(sheet: Sheet, base: &B, ledgers: &Ledgers<'_>, scratch: &mut [u16]) -> Verdict
-    ensures { EndedWith (meaning base.now) (length scratch.old) (state_of sheet (ledgers_of ledgers.now)) (ending_of result) }
+    ensures { EndedWith (B.meaning base.now) (length scratch.old) (state_of sheet (ledgers_of ledgers.now)) (ending_of result) }
 {
     Verdict {
         finding: review(&sheet, base, ledgers, scratch),

@@ -3,7 +3,7 @@ use Rattle.std.proofs.Common.{◌≡◌, ℕ, zero, suc, ◌-◌, ◌<◌, ◌�
 use Rattle.std.specs.Result.{result_map_both}
 use Rattle.rows.specs.declared.fault.RowFault.{RowFault}
 use Rattle.rows.specs.declared.fault.RowFault.TheVariants.{NoSuchRow}
-use Rattle.rows.specs.Rows.{row_at, refusal, row_fault_numbers, RowAt}
+use Rattle.rows.specs.Rows.{row_at, RowAt}
 
 pub row_at-inside : {X : Type 0} (xs : List X) (n : ℕ) (d : X) → n < length xs → row_at xs n ≡ Ok (get_or xs n d)
 row_at-inside [] n d h = absurd (omega arith)

@@ -1,5 +1,7 @@
 // What row n of a list is, counted from 0, and the one refusal that asking for a row can meet.
 // Nothing of bases, concepts or sheets belongs here.
+#![tactic(auto)]
+
 ghost use Rattle.rows.specs.Rows.{row_at, RowAt};
 ghost use Rattle.std.specs.Prelude.{◌≡◌};
 

@@ -1,5 +1,7 @@
 // One scan of a slice for every yes-or-no test of an item: whether the test passes at some item, or at every one. What the
 // items are about does not belong here.
+#![tactic(auto)]
+
 ghost use Rattle.calculus.specs.Branches.{any};
 ghost use Rattle.calculus.specs.States.{every};
 ghost use Rattle.std.specs.Prelude.{◌≡◌, Bool};

@@ -1,5 +1,6 @@
 // The running sheet: opening, and playing steps. Every call is equal to its definition in the calculus.
 // Reading of lines, review and searching do not belong here.
+#![tactic(auto)]
 
 mod lookups;
 mod numbers;

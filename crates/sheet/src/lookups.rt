@@ -30,7 +30,7 @@ fn missing_parts<B: Base>(
     e: Concept,
     x: Individual,
 ) -> Adds
-    ensures { adds_of result ≡ missing (meaning base.now) (branch_in view.now) (Is d x ∷ Is e x ∷ []) }
+    ensures { adds_of result ≡ missing (B.meaning base.now) (branch_in view.now) (Is d x ∷ Is e x ∷ []) }
 {
     let first = Assertion::Is(d, x);
     let second = Assertion::Is(e, x);
@@ -58,7 +58,7 @@ fn missing_reached<B: Base>(
     y: Individual,
     d: Concept,
 ) -> Adds
-    ensures { adds_of result ≡ missing (meaning base.now) (branch_in view.now) (Joins r x y ∷ Is d y ∷ []) }
+    ensures { adds_of result ≡ missing (B.meaning base.now) (branch_in view.now) (Joins r x y ∷ Is d y ∷ []) }
 {
     let first = Assertion::Joins(r, x, y);
     let second = Assertion::Is(d, y);
@@ -77,7 +77,7 @@ fn missing_reached<B: Base>(
 
 // Those of the facts that are missing when their turn comes.
 fn missing_of<B: Base>(view: &View<'_, '_>, base: &B, adds: &Adds) -> Adds
-    ensures { adds_of result ≡ missing (meaning base.now) (branch_in view.now) (adds_of adds.now) }
+    ensures { adds_of result ≡ missing (B.meaning base.now) (branch_in view.now) (adds_of adds.now) }
 {
     match *adds {
         Adds::Nothing => Adds::Nothing,
@@ -102,7 +102,7 @@ pub(crate) fn look_up<B: Base>(
 ) -> Result<Adds, StepFault>
     requires few { length heads.old ≤ 65535 }
     requires named { every (names_below (length heads.old)) (ledgers_of ledgers.now).pairs.rows ≡ true }
-    ensures { adds_as result ≡ looked_up (meaning base.now) (branch_of (ledgers_of ledgers.now) (length heads.old)) (rule_of rule.now) }
+    ensures { adds_as result ≡ looked_up (B.meaning base.now) (branch_of (ledgers_of ledgers.now) (length heads.old)) (rule_of rule.now) }
 {
     let view = View::over(
         heads,
@@ -137,7 +137,7 @@ pub(crate) fn is_held_before<B: Base>(
 ) -> bool
     requires few { length heads.old ≤ 65535 }
     requires named { every (names_below (length heads.old)) (ledgers_of ledgers.now).pairs.rows ≡ true }
-    ensures { result ≡ held (meaning base.now) (branch_of (cut_to side.now (ledgers_of ledgers.now)) side.now.individuals) (side_of side.now) }
+    ensures { result ≡ held (B.meaning base.now) (branch_of (cut_to side.now (ledgers_of ledgers.now)) side.now.individuals) (side_of side.now) }
 {
     let concepts = front(ledgers.concepts.rows(), side.concepts);
     let roles = front(ledgers.roles.rows(), side.roles);

@@ -22,7 +22,7 @@ impl Sheet {
     /// A new sheet over a base, with all four ledgers emptied; or 4 for a count of the base or a size of a ledger that is not
     /// accepted, else 2 for the first row out of range. A refusal changes nothing.
     pub fn open<B: Base>(base: &B, ledgers: &mut Ledgers<'_>) -> Result<Sheet, BaseFault>
-        ensures { Opened (meaning base.now) (ledgers_of ledgers.old) result (ledgers_of ledgers.new) }
+        ensures { Opened (B.meaning base.now) (ledgers_of ledgers.old) result (ledgers_of ledgers.new) }
     {
         let sizes = ledgers.sizes();
         if !are_accepted(&sizes) {

@@ -86,10 +86,10 @@ impl Sheet {
         ledgers: &mut Ledgers<'_>,
         heads: &mut [u16],
     ) -> Result<usize, StepFault>
-        requires fit { fits (meaning base.now) (state_of self.old (ledgers_of ledgers.old)) ≡ true }
+        requires fit { fits (B.meaning base.now) (state_of self.old (ledgers_of ledgers.old)) ≡ true }
         requires heads { length heads.old ≡ self.old.individuals }
         requires steps { self.old.steps < 1000000 }
-        ensures { Stepped (close (meaning base.now) (state_of self.old (ledgers_of ledgers.old)) (last_of (ledgers_of ledgers.old).pending.rows)) (state_of self.old (ledgers_of ledgers.old)) result (state_of self.new (ledgers_of ledgers.new)) }
+        ensures { Stepped (close (B.meaning base.now) (state_of self.old (ledgers_of ledgers.old)) (last_of (ledgers_of ledgers.old).pending.rows)) (state_of self.old (ledgers_of ledgers.old)) result (state_of self.new (ledgers_of ledgers.new)) }
     {
         match ledgers.last_pending() {
             None => {
@@ -112,9 +112,9 @@ impl Sheet {
         heads: &mut [u16],
         rule: &Rule,
     ) -> Result<usize, StepFault>
-        requires fit { fits (meaning base.now) (state_of self.old (ledgers_of ledgers.old)) ≡ true }
+        requires fit { fits (B.meaning base.now) (state_of self.old (ledgers_of ledgers.old)) ≡ true }
         requires heads { length heads.old ≡ self.old.individuals }
-        ensures { Stepped (perform (meaning base.now) (state_of self.old (ledgers_of ledgers.old)) (rule_of rule.now)) (state_of self.old (ledgers_of ledgers.old)) result (state_of self.new (ledgers_of ledgers.new)) }
+        ensures { Stepped (perform (B.meaning base.now) (state_of self.old (ledgers_of ledgers.old)) (rule_of rule.now)) (state_of self.old (ledgers_of ledgers.old)) result (state_of self.new (ledgers_of ledgers.new)) }
     {
         let new = look_up(base, ledgers, heads, rule)?;
         if self.steps >= 1000000 {
@@ -137,7 +137,7 @@ impl Sheet {
         scratch: &mut [u16],
         step: &Step<'_>,
     ) -> Result<usize, StepFault>
-        ensures { StepPlayed (meaning base.now) (length scratch.old) step.now (state_of self.old (ledgers_of ledgers.old)) result (state_of self.new (ledgers_of ledgers.new)) }
+        ensures { StepPlayed (B.meaning base.now) (length scratch.old) step.now (state_of self.old (ledgers_of ledgers.old)) result (state_of self.new (ledgers_of ledgers.new)) }
     {
         self.check_ready(base, ledgers, scratch.len())?;
         let rule = rule_of(base, self.individuals, step)?;

@@ -33,7 +33,7 @@ impl Sheet {
     /// Whether the base and the ledgers are the sheet's: equal counts, sizes and numbers of rows, and every row within base and
     /// sheet.
     pub fn fits<B: Base>(&self, base: &B, ledgers: &Ledgers<'_>) -> bool
-        ensures { result ≡ fits (meaning base.now) (state_of self.now (ledgers_of ledgers.now)) }
+        ensures { result ≡ fits (B.meaning base.now) (state_of self.now (ledgers_of ledgers.now)) }
     {
         are_same_counts(&base.counts(), &self.base)
             && are_same_lengths(&ledgers.sizes(), &self.sizes)
@@ -48,7 +48,7 @@ impl Sheet {
         ledgers: &Ledgers<'_>,
         scratch: usize,
     ) -> Result<(), StepFault>
-        ensures { result ≡ ready (meaning base.now) scratch (state_of self.now (ledgers_of ledgers.now)) }
+        ensures { result ≡ ready (B.meaning base.now) scratch (state_of self.now (ledgers_of ledgers.now)) }
     {
         if !self.fits(base, ledgers) {
             Err(StepFault::Changed)

@@ -70,7 +70,7 @@ pub(crate) fn key<B: Base>(
     y: Individual,
     zs: &[Individual],
 ) -> Result<Rule, StepFault>
-    ensures { ruled_as result ≡ key_line (meaning base.now) individuals k x y zs.now }
+    ensures { ruled_as result ≡ key_line (B.meaning base.now) individuals k x y zs.now }
 {
     let in_range = below(individuals, x) && below(individuals, y) && all_below(individuals, zs);
     key_rule(x, y, zs, inside(in_range, base.key(k)?)?)

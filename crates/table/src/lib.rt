@@ -1,5 +1,7 @@
 // The rule table in running code: for each of the ten steps, what it needs, adds, splits and closes. It looks at the base and
 // at the numbers that a step names; nothing of rows that a sheet has written belongs here.
+#![tactic(auto)]
+
 ghost use Rattle.calculus.specs.Table.{rule};
 ghost use Rattle.table.specs.Rules.{ruled_as};
 ghost use Rattle.std.specs.Prelude.{◌≡◌};
@@ -21,7 +23,7 @@ use rule::Rule;
 /// The line of a step on a sheet with so many individuals, or why it is refused: a number out of range (7), then a concept of
 /// another kind or a wrong count of shared values (8).
 pub fn rule_of<B: Base>(base: &B, individuals: u16, step: &Step<'_>) -> Result<Rule, StepFault>
-    ensures { ruled_as result ≡ rule (meaning base.now) individuals step.now }
+    ensures { ruled_as result ≡ rule (B.meaning base.now) individuals step.now }
 {
     match *step {
         Step::Take(k) => steps::take(base, individuals, k),

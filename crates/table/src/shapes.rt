@@ -29,7 +29,7 @@ pub(crate) fn shape_in<B: Base>(
     in_range: bool,
     c: Concept,
 ) -> Result<Shape, StepFault>
-    ensures { result ≡ shape_in (meaning base.now) individuals in_range c }
+    ensures { result ≡ shape_in (B.meaning base.now) individuals in_range c }
 {
     match base.entry(c.entry_number()) {
         Ok(entry) => inside(in_range, shape_of(c.0 % 2 == 0, entry)),

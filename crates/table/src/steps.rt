@@ -17,7 +17,7 @@ use kb::names::{Concept, Individual};
 
 /// Takes an assertion of the base.
 pub(crate) fn take<B: Base>(base: &B, individuals: u16, k: usize) -> Result<Rule, StepFault>
-    ensures { ruled_as result ≡ rule (meaning base.now) individuals (Take k) }
+    ensures { ruled_as result ≡ rule (B.meaning base.now) individuals (Take k) }
 {
     let assertion = base.assertion(k)?;
     Ok(Rule::adding(Facts::none(), Adds::Fact(assertion)))
@@ -30,7 +30,7 @@ pub(crate) fn both<B: Base>(
     c: Concept,
     x: Individual,
 ) -> Result<Rule, StepFault>
-    ensures { ruled_as result ≡ rule (meaning base.now) individuals (Both c x) }
+    ensures { ruled_as result ≡ rule (B.meaning base.now) individuals (Both c x) }
 {
     match shape_in(base, individuals, below(individuals, x), c)? {
         Shape::Both(d, e) => {
@@ -49,7 +49,7 @@ pub(crate) fn all<B: Base>(
     x: Individual,
     y: Individual,
 ) -> Result<Rule, StepFault>
-    ensures { ruled_as result ≡ rule (meaning base.now) individuals (All c x y) }
+    ensures { ruled_as result ≡ rule (B.meaning base.now) individuals (All c x y) }
 {
     let in_range = below(individuals, x) && below(individuals, y);
     match shape_in(base, individuals, in_range, c)? {
@@ -69,7 +69,7 @@ pub(crate) fn some<B: Base>(
     c: Concept,
     x: Individual,
 ) -> Result<Rule, StepFault>
-    ensures { ruled_as result ≡ rule (meaning base.now) individuals (SomeStep c x) }
+    ensures { ruled_as result ≡ rule (B.meaning base.now) individuals (SomeStep c x) }
 {
     match shape_in(base, individuals, below(individuals, x), c)? {
         Shape::Some(r, d) => {
@@ -88,7 +88,7 @@ pub(crate) fn include<B: Base>(
     k: usize,
     x: Individual,
 ) -> Result<Rule, StepFault>
-    ensures { ruled_as result ≡ rule (meaning base.now) individuals (Include k x) }
+    ensures { ruled_as result ≡ rule (B.meaning base.now) individuals (Include k x) }
 {
     let inclusion = inside(below(individuals, x), base.inclusion(k)?)?;
     let needs = Facts::one(Assertion::Is(inclusion.sub, x));
@@ -103,7 +103,7 @@ pub(crate) fn either<B: Base>(
     c: Concept,
     x: Individual,
 ) -> Result<Rule, StepFault>
-    ensures { ruled_as result ≡ rule (meaning base.now) individuals (Either c x) }
+    ensures { ruled_as result ≡ rule (B.meaning base.now) individuals (Either c x) }
 {
     match shape_in(base, individuals, below(individuals, x), c)? {
         Shape::NotBoth(d, e) => {
@@ -121,7 +121,7 @@ pub(crate) fn cut<B: Base>(
     c: Concept,
     x: Individual,
 ) -> Result<Rule, StepFault>
-    ensures { ruled_as result ≡ rule (meaning base.now) individuals (Cut c x) }
+    ensures { ruled_as result ≡ rule (B.meaning base.now) individuals (Cut c x) }
 {
     shape_in(base, individuals, below(individuals, x), c)?;
     Ok(Rule::splitting(Facts::none(), c, c.complement(), x))
@@ -134,7 +134,7 @@ pub(crate) fn clash<B: Base>(
     c: Concept,
     x: Individual,
 ) -> Result<Rule, StepFault>
-    ensures { ruled_as result ≡ rule (meaning base.now) individuals (Clash c x) }
+    ensures { ruled_as result ≡ rule (B.meaning base.now) individuals (Clash c x) }
 {
     shape_in(base, individuals, below(individuals, x), c)?;
     let needs = Facts::two(Assertion::Is(c, x), Assertion::Is(c.complement(), x));
@@ -148,7 +148,7 @@ pub(crate) fn apart<B: Base>(
     x: Individual,
     y: Individual,
 ) -> Result<Rule, StepFault>
-    ensures { ruled_as result ≡ rule (meaning base.now) individuals (Apart x y) }
+    ensures { ruled_as result ≡ rule (B.meaning base.now) individuals (Apart x y) }
 {
     let in_range = below(individuals, x) && below(individuals, y);
     let needs = Facts::two(Assertion::Different(x, y), Assertion::Same(x, y));

@@ -1,4 +1,6 @@
 // Playing a text on a sheet, line by line. What a line is, and what a step does, is not said here.
+#![tactic(auto)]
+
 ghost use Rattle.std.specs.Prelude.{◌≡◌, ◌<◌, ◌≤◌, length, IfOk};
 ghost use Rattle.calculus.specs.States.{State};
 ghost use Rattle.ledgers.specs.Contents.{ledgers_of};
@@ -23,7 +25,7 @@ fn play_line<B: Base>(
     text: &[u8],
     from: usize,
 ) -> Result<usize, LineFault>
-    ensures done { LineDone (play_line (meaning base.now) (length scratch.old) text.now from (state_of sheet.old (ledgers_of ledgers.old))) (state_of sheet.old (ledgers_of ledgers.old)) result (state_of sheet.new (ledgers_of ledgers.new)) }
+    ensures done { LineDone (play_line (B.meaning base.now) (length scratch.old) text.now from (state_of sheet.old (ledgers_of ledgers.old))) (state_of sheet.old (ledgers_of ledgers.old)) result (state_of sheet.new (ledgers_of ledgers.new)) }
     ensures further { IfOk result (λ end. from < end) }
 {
     let read = read_line(text, from)?;
@@ -39,7 +41,7 @@ fn play_lines<B: Base>(
     scratch: &mut [u16],
     text: &[u8],
 ) -> Result<usize, TextFault>
-    ensures { TextDone (play_lines (meaning base.now) (length scratch.old) text.now (length text.now) 0 0 (state_of sheet.old (ledgers_of ledgers.old))) result (state_of sheet.new (ledgers_of ledgers.new)) }
+    ensures { TextDone (play_lines (B.meaning base.now) (length scratch.old) text.now (length text.now) 0 0 (state_of sheet.old (ledgers_of ledgers.old))) result (state_of sheet.new (ledgers_of ledgers.new)) }
 {
     let mut from = 0;
     let mut line = 0;
@@ -62,8 +64,8 @@ pub fn play_text<B: Base>(
     scratch: &mut [u16],
     text: &[u8],
 ) -> Result<usize, TextFault>
-    ensures value { TextDone (play_text (meaning base.now) (length scratch.old) text.now (state_of sheet.old (ledgers_of ledgers.old))) result (state_of sheet.new (ledgers_of ledgers.new)) }
-    ensures means { TextPlayed (meaning base.now) (length scratch.old) text.now (state_of sheet.old (ledgers_of ledgers.old)) result (state_of sheet.new (ledgers_of ledgers.new)) }
+    ensures value { TextDone (play_text (B.meaning base.now) (length scratch.old) text.now (state_of sheet.old (ledgers_of ledgers.old))) result (state_of sheet.new (ledgers_of ledgers.new)) }
+    ensures means { TextPlayed (B.meaning base.now) (length scratch.old) text.now (state_of sheet.old (ledgers_of ledgers.old)) result (state_of sheet.new (ledgers_of ledgers.new)) }
 {
     if text.len() > 32768 {
         return Err(TextFault::Size);

@@ -1,4 +1,6 @@
 // The theorems about sheets, each on the contract of a function made for it, so that its proof is asked for.
+#![tactic(auto)]
+
 ghost use Rattle.theorem.specs.Soundness.{ClosedIsSound};
 
 pub mod asking;

@@ -10,7 +10,7 @@ loop-k-preserved g c =
     let ys = (g.R.Base.meaning c.args.right.now).entries in
     let l = c.entry.ensures ∙ ap (row_at xs) c.from.ensures in
     let r = c.entry-in-loop-k.ensures ∙ ap (row_at ys) c.from-in-loop-k.ensures in
-    below_more _ _ c.loop-k.invariant (sym l ∙ c.if-not-same-answer.ensures.0 refl ∙ r)
+    below_more _ _ c.loop-k.invariant (sym l ∙ c.if-not-same_answer.ensures.0 refl ∙ r)
 
 pub returns : goal.returns
 returns g c =

@@ -4,8 +4,8 @@ use Rattle.review.proofs.review.Goals as goal
 pub returns-then-not-fits : goal.returns-then-not-fits
 returns-then-not-fits g c = ?
 
-pub returns-then-is-closed : goal.returns-then-is-closed
-returns-then-is-closed g c = ?
+pub returns-then-is_closed : goal.returns-then-is_closed
+returns-then-is_closed g c = ?
 
 pub returns : goal.returns
 returns g c = ?

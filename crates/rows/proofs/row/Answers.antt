@@ -1,4 +1,4 @@
-use Rattle.std.proofs.Common.{◌≡◌, Ok, sym, ap, ◌∙◌}
+use Rattle.std.proofs.Common.{Ok, sym, ap, ◌∙◌}
 use Rattle.rows.proofs.RowLaws.{row_at-inside, row_at-beyond, answers_means}
 use Rattle.rows.proofs.row.Goals as goal
 

@@ -5,4 +5,4 @@ use Rattle.casewriter.proofs.numbers.key_numbers.Goals as goal
 
 pub returns-in-Four : goal.returns-in-Four
 returns-in-Four c =
-    c.link-numbers-in-Four.ensures ∙ sym (ap key_numbers (c.in-Link.is ∙ ap (Link c.in-Link.c c.in-Link.d) c.in-Four.is))
+    c.link_numbers-in-Four.ensures ∙ sym (ap key_numbers (c.in-Link.is ∙ ap (Link c.in-Link.c c.in-Link.d) c.in-Four.is))

@@ -8,29 +8,33 @@ use Rattle.casewriter.proofs.Overwriting.{Holds, holds-behind}
 use Rattle.casewriter.proofs.SectionLaws.{length-parts}
 use Rattle.casewriter.proofs.sections.put_case.Goals as goal
 
-pub put-section-assertions-at-requires : goal.put-section-assertions-at-requires
-put-section-assertions-at-requires g c = (c.requires.0, omega (arith, length-parts (g.B.Base.meaning c.args.base.now)))
+pub put_section-assertions_at-requires : goal.put_section-assertions_at-requires
+put_section-assertions_at-requires g c =
+    record { counts_value = c.requires.counts_value; list_in_bounds = omega (arith, length-parts (g.B.Base.meaning c.args.base.now)) }
 
-pub put-section-inclusions-at-requires : goal.put-section-inclusions-at-requires
-put-section-inclusions-at-requires g c = (c.requires.0, omega (arith, length-parts (g.B.Base.meaning c.args.base.now)))
+pub put_section-inclusions_at-requires : goal.put_section-inclusions_at-requires
+put_section-inclusions_at-requires g c =
+    record { counts_value = c.requires.counts_value; list_in_bounds = omega (arith, length-parts (g.B.Base.meaning c.args.base.now)) }
 
-pub put-section-keys-at-requires : goal.put-section-keys-at-requires
-put-section-keys-at-requires g c = (c.requires.0, omega (arith, length-parts (g.B.Base.meaning c.args.base.now)))
+pub put_section-keys_at-requires : goal.put_section-keys_at-requires
+put_section-keys_at-requires g c =
+    record { counts_value = c.requires.counts_value; list_in_bounds = omega (arith, length-parts (g.B.Base.meaning c.args.base.now)) }
 
-pub put-section-requires : goal.put-section-requires
-put-section-requires g c = (c.requires.0, omega (arith, length-parts (g.B.Base.meaning c.args.base.now)))
+pub put_section-requires : goal.put_section-requires
+put_section-requires g c =
+    record { counts_value = c.requires.counts_value; list_in_bounds = omega (arith, length-parts (g.B.Base.meaning c.args.base.now)) }
 
 pub returns : goal.returns
 returns g c =
     let m = g.B.Base.meaning c.args.base.now in
     let before = c.args.buffer.now in
-    let header : Holds before (header_numbers (counts_of m)) c.put-header-entries-at.result c.put-header-entries-at.new.out =
+    let header : Holds before (header_numbers (counts_of m)) c.put_header-entries_at.result c.put_header-entries_at.new.out =
     record {
-      size = c.put-header-entries-at.ensures.size;
-      bytes = c.put-header-entries-at.ensures.bytes ∙ ap (λ (n : Counts). over (bytes_of (header_numbers n)) before) c.requires.0;
+      size = c.put_header-entries_at.ensures.size;
+      bytes = c.put_header-entries_at.ensures.bytes ∙ ap (λ (n : Counts). over (bytes_of (header_numbers n)) before) c.requires.counts_value;
     } in
-    let entries = holds-behind (section_numbers m Entries) _ _ header c.put-section-assertions-at.ensures.end c.put-section-assertions-at.ensures.bytes in
-    let assertions = holds-behind (section_numbers m Assertions) _ _ entries c.put-section-inclusions-at.ensures.end c.put-section-inclusions-at.ensures.bytes in
-    let inclusions = holds-behind (section_numbers m Inclusions) _ _ assertions c.put-section-keys-at.ensures.end c.put-section-keys-at.ensures.bytes in
-    let keys = holds-behind (section_numbers m Keys) _ _ inclusions c.put-section.ensures.end c.put-section.ensures.bytes in
+    let entries = holds-behind (section_numbers m Entries) _ _ header c.put_section-assertions_at.ensures.end c.put_section-assertions_at.ensures.bytes in
+    let assertions = holds-behind (section_numbers m Assertions) _ _ entries c.put_section-inclusions_at.ensures.end c.put_section-inclusions_at.ensures.bytes in
+    let inclusions = holds-behind (section_numbers m Inclusions) _ _ assertions c.put_section-keys_at.ensures.end c.put_section-keys_at.ensures.bytes in
+    let keys = holds-behind (section_numbers m Keys) _ _ inclusions c.put_section.ensures.end c.put_section.ensures.bytes in
     record { size = keys.size; bytes = keys.bytes }

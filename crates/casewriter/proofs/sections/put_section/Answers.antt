@@ -6,4 +6,4 @@ use Rattle.casewriter.proofs.sections.put_section.Goals as goal
 pub returns : goal.returns
 returns g c =
     let bytes = bytes_of (section_numbers (g.B.Base.meaning c.args.base.now) c.args.list) in
-    record { end = omega arith; bytes = part-over bytes c.args.buffer.now c.put-rows.new.out c.args.at c.put-rows.ensures.bytes }
+    record { end = omega arith; bytes = part-over bytes c.args.buffer.now c.put_rows.new.out c.args.at c.put_rows.ensures.bytes }

@@ -6,40 +6,40 @@ use Rattle.casewriter.proofs.RoundTrip.{size_is}
 use Rattle.casewriter.proofs.WriteLaws.{Answered, refused, short, wrote}
 use Rattle.casewriter.proofs.writer.write_case.Goals as goal
 
-pub returns-in-err-counts : goal.returns-in-err-counts
-returns-in-err-counts g c =
+pub returns-in_err-counts : goal.returns-in_err-counts
+returns-in_err-counts g c =
     let m = g.B.Base.meaning c.args.base.now in
     let before = c.args.buffer.now in
-    let p = err_from_is_err_and c.from-residual.result c.from-residual.ensures.1 in
-    let r = refused m before c.in-err-counts.field-0.0 (sym c.in-err-counts.ensures.value) in
+    let p = err_from_is_err_and c.from_residual.result c.from_residual.ensures.1 in
+    let r = refused m before c.in_err-counts.field-0.0 (sym c.in_err-counts.ensures.value) in
     let a = subst (λ (x : Result ℕ WriteFault). Answered m before x before) (sym (p.1 ∙ ap Err p.2)) r in
     record { value = a.value; bytes = a.bytes; means = a.means }
 
-pub put-case-requires : goal.put-case-requires
-put-case-requires g c =
+pub put_case-requires : goal.put_case-requires
+put_case-requires g c =
     let m = g.B.Base.meaning c.args.base.now in
-    let n = c.in-ok-counts.counts in
-    let e = (c.check-base.ensures.means.accepts n c.in-ok-counts.was).0 in
-    (e, omega (arith, size_is m n c.case-size.result e c.case-size.ensures))
+    let n = c.in_ok-counts.counts in
+    let e = (c.check_base.ensures.means.accepts n c.in_ok-counts.was).0 in
+    record { counts_value = e; base_in_bounds = omega (arith, size_is m n c.case_size.result e c.case_size.ensures) }
 
-pub returns-then-case-size-buffer : goal.returns-then-case-size-buffer
-returns-then-case-size-buffer g c =
+pub returns-then-case_size-buffer : goal.returns-then-case_size-buffer
+returns-then-case_size-buffer g c =
     let m = g.B.Base.meaning c.args.base.now in
-    let n = c.in-ok-counts.counts in
+    let n = c.in_ok-counts.counts in
     let before = c.args.buffer.now in
-    let after = c.put-case.new.buffer in
-    let e = (c.check-base.ensures.means.accepts n c.in-ok-counts.was).0 in
-    let h : length (case_bytes m) ≤ length before = omega (arith, size_is m n c.case-size.result e c.case-size.ensures) in
-    let w = wrote m before n after (sym c.in-ok-counts.ensures.value) (g.B.Base.owed c.args.base.now) h c.put-case.ensures.bytes in
-    let a = subst (λ (k : ℕ). Answered m before (Ok k) after) (sym c.put-case.ensures.size) w in
+    let after = c.put_case.new.buffer in
+    let e = (c.check_base.ensures.means.accepts n c.in_ok-counts.was).0 in
+    let h : length (case_bytes m) ≤ length before = omega (arith, size_is m n c.case_size.result e c.case_size.ensures) in
+    let w = wrote m before n after (sym c.in_ok-counts.ensures.value) (g.B.Base.owed c.args.base.now) h c.put_case.ensures.bytes in
+    let a = subst (λ (k : ℕ). Answered m before (Ok k) after) (sym c.put_case.ensures.size) w in
     record { value = a.value; bytes = a.bytes; means = a.means }
 
-pub returns-else-case-size-buffer : goal.returns-else-case-size-buffer
-returns-else-case-size-buffer g c =
+pub returns-else-case_size-buffer : goal.returns-else-case_size-buffer
+returns-else-case_size-buffer g c =
     let m = g.B.Base.meaning c.args.base.now in
-    let n = c.in-ok-counts.counts in
+    let n = c.in_ok-counts.counts in
     let before = c.args.buffer.now in
-    let e = (c.check-base.ensures.means.accepts n c.in-ok-counts.was).0 in
-    let h : length before < length (case_bytes m) = omega (arith, size_is m n c.case-size.result e c.case-size.ensures) in
-    let a = short m before n (sym c.in-ok-counts.ensures.value) h in
+    let e = (c.check_base.ensures.means.accepts n c.in_ok-counts.was).0 in
+    let h : length before < length (case_bytes m) = omega (arith, size_is m n c.case_size.result e c.case_size.ensures) in
+    let a = short m before n (sym c.in_ok-counts.ensures.value) h in
     record { value = a.value; bytes = a.bytes; means = a.means }

@@ -6,9 +6,9 @@ use Rattle.conditions.specs.Named.{concept_named}
 use Rattle.conditions.proofs.NamedLaws.{first-unnamed}
 use Rattle.conditions.proofs.entries.first_of_entry.Goals as goal
 
-pub returns-in-err-c : goal.returns-in-err-c
-returns-in-err-c g c =
+pub returns-in_err-c : goal.returns-in_err-c
+returns-in_err-c g c =
     let b = branch_in c.args.view.now in
-    let none = c.in-err-c.ensures ∙ ap (concept_named b) c.asked-of.ensures in
-    c.from-residual.ensures
+    let none = c.in_err-c.ensures ∙ ap (concept_named b) c.asked_of.ensures in
+    c.from_residual.ensures
     ∙ first-unnamed (g.B.Base.meaning c.args.base.now) b (asked_of c.args.which c.args.k) none c.args.which c.args.row

@@ -7,4 +7,4 @@ pub loop-k-preserved : goal.loop-k-preserved
 loop-k-preserved g c =
     let text = row_text (g.B.Base.meaning c.args.base.now) c.args.list in
     behind-same _ _ (ap (text_below text) (sym (add-one c.loop-k.k)))
-    (behind_then c.loop-k.invariant c.in-ok-write-row.ensures)
+    (behind_then c.loop-k.invariant c.in_ok-write_row.ensures)

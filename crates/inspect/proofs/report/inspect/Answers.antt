@@ -5,7 +5,7 @@ use Rattle.inspect.proofs.report.inspect.Goals as goal
 
 pub returns : goal.returns
 returns c =
-    let wrote = behind_then c.in-ok-write-base.ensures c.in-ok-write-answer.ensures in
+    let wrote = behind_then c.in_ok-write_base.ensures c.in_ok-write_answer.ensures in
     wrote.is
     ∙ ap (λ t. t ++ report_text c.new-file.result.bytes.now) c.new-text.ensures.bytes
     ∙ ap report_text c.new-file.ensures

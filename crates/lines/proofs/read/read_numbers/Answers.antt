@@ -11,12 +11,12 @@ pub loop-init : goal.loop-init
 loop-init c =
     (ap length c.none-numbers.ensures, ap (λ ns. read_numbers 7 ns (drop c.args.from c.args.text.now)) c.none-numbers.ensures)
 
-pub returns-in-err-number : goal.returns-in-err-number
-returns-in-err-number c =
-    let p = err_from_is_err_and c.from-residual.result c.from-residual.ensures.1 in
+pub returns-in_err-number : goal.returns-in_err-number
+returns-in_err-number c =
+    let p = err_from_is_err_and c.from_residual.result c.from_residual.ensures.1 in
     ap (result_map_both (seen_numbers c.args.text.now) (λ f. f)) (p.1 ∙ ap Err p.2)
-    ∙ none-at c.args.text.now (items c.loop.numbers) c.loop.at c.loop.counter (sym c.is-at.ensures.value ∙ c.if-not-is-at.false) c.loop-test.true _
-    c.in-err-number.ensures.value
+    ∙ none-at c.args.text.now (items c.loop.numbers) c.loop.at c.loop.counter (sym c.is_at.ensures.value ∙ c.if-not-is_at.false) c.loop-test.true _
+    c.in_err-number.ensures.value
     ∙ c.loop.invariant.1
 
 pub push-requires : goal.push-requires
@@ -25,10 +25,10 @@ push-requires c = (lit< tt, omega (arith, c.loop.invariant.0))
 pub loop-preserved : goal.loop-preserved
 loop-preserved c =
     let ns = items c.loop.numbers in
-    let n = c.in-ok-number.number in (
+    let n = c.in_ok-number.number in (
       ap length c.push.ensures ∙ length_push ns n.value ∙ ap (λ k. k + 1) c.loop.invariant.0,
-      one_at c.args.text.now ns c.loop.at c.loop.counter (sym c.is-at.ensures.value ∙ c.if-not-is-at.false) c.loop-test.true (items c.push.new.self) n
-          c.in-ok-number.ensures.value c.push.ensures
+      one_at c.args.text.now ns c.loop.at c.loop.counter (sym c.is_at.ensures.value ∙ c.if-not-is_at.false) c.loop-test.true (items c.push.new.self) n
+          c.in_ok-number.ensures.value c.push.ensures
           ∙ c.loop.invariant.1,
     )
 
@@ -36,8 +36,8 @@ pub returns-after-loop : goal.returns-after-loop
 returns-after-loop c =
     numbers-none (items c.loop.numbers) (drop c.loop.at c.args.text.now) (7 - c.loop.counter) (omega arith) ∙ c.loop.invariant.1
 
-pub returns-then-not-is-at : goal.returns-then-not-is-at
-returns-then-not-is-at c =
+pub returns-then-not-is_at : goal.returns-then-not-is_at
+returns-then-not-is_at c =
     numbers_stop (items c.loop.numbers) (drop c.loop.at c.args.text.now) (7 - c.loop.counter)
-    (sym c.is-at.ensures.value ∙ c.if-not-is-at.true)
+    (sym c.is_at.ensures.value ∙ c.if-not-is_at.true)
     ∙ c.loop.invariant.1

@@ -15,8 +15,8 @@ push-requires-in-loop-n c =
     let size = spelled-size c.args.letter ns c.loop-n.n-index (typed_small ns c.type-inv.numbers) in
     (lit< tt, omega (arith, c.requires, size, ap length c.loop-n.invariant))
 
-pub spell-number-requires : goal.spell-number-requires
-spell-number-requires c =
+pub spell_number-requires : goal.spell_number-requires
+spell_number-requires c =
     let ns = c.args.numbers.now in
     let i = c.loop-n.n-index in
     let size = spelled-size c.args.letter ns i (typed_small ns c.type-inv.numbers) in
@@ -25,8 +25,8 @@ spell-number-requires c =
 
 pub loop-n-preserved : goal.loop-n-preserved
 loop-n-preserved c =
-    spelled-more (items c.loop-n.text) (items c.push-in-loop-n.new.self) (items c.spell-number.new.text) c.args.letter c.args.numbers.now c.loop-n.n-index
-    c.loop-n-test.true c.loop-n.invariant c.push-in-loop-n.ensures c.spell-number.ensures
+    spelled-more (items c.loop-n.text) (items c.push-in-loop-n.new.self) (items c.spell_number.new.text) c.args.letter c.args.numbers.now c.loop-n.n-index
+    c.loop-n-test.true c.loop-n.invariant c.push-in-loop-n.ensures c.spell_number.ensures
 
 pub push-requires-2 : goal.push-requires-2
 push-requires-2 c =

@@ -22,7 +22,7 @@ loop-i-preserved c x =
     let named = subst (λ n. every (names_below n) ps ≡ true) e c.requires.named in
     ap (λ qs. head_of qs x) (take_more ps i _ l)
     ∙ headOf-joinedBy (take i ps) _ hs (every-at (names_below (length hs)) ps i _ l named) c.loop-i.invariant x
-    ∙ ap (λ ys. head_in ys x) (sym c.join-by.ensures)
+    ∙ ap (λ ys. head_in ys x) (sym c.join_by.ensures)
 
 pub returns : goal.returns
 returns c x =

@@ -13,10 +13,10 @@ loop-i-preserved c =
     let x = get_or ys i 0 in
     let h : i < length ys = omega arith in
     ap (set ys i) c.merge.ensures
-    ∙ map_over_more (merged c.head-of-u.result c.head-of-v.result) hs ys i x c.loop-i-test.true c.loop-i.invariant (get_or_default ys i 0 x h)
+    ∙ map_over_more (merged c.head_of-u.result c.head_of-v.result) hs ys i x c.loop-i-test.true c.loop-i.invariant (get_or_default ys i 0 x h)
 
 pub returns : goal.returns
 returns c =
     let hs = c.args.heads.now in
     let l : length hs ≤ c.loop-i.i = c.loop-i-test.false in
-    c.loop-i.invariant ∙ rw (take_all c.loop-i.i hs l, drop_all c.loop-i.i hs l, append-nil, c.head-of-u.ensures, c.head-of-v.ensures)
+    c.loop-i.invariant ∙ rw (take_all c.loop-i.i hs l, drop_all c.loop-i.i hs l, append-nil, c.head_of-u.ensures, c.head_of-v.ensures)

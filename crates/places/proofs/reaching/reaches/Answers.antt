@@ -8,5 +8,5 @@ use Rattle.places.proofs.reaching.reaches.Goals as goal
 pub returns : goal.returns
 returns g c =
     let view = c.args.view.now in
-    c.some-row-reaches.ensures
+    c.some_row_reaches.ensures
     ∙ rows_reach (g.B.Base.meaning c.args.base.now) (branch_in view) (λ y le. view.known y ∙ get_or_past view.heads.now y y le) c.args.role c.args.from c.args.asked

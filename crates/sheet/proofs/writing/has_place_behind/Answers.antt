@@ -12,5 +12,5 @@ returns-then-side-count c =
 
 pub returns-else-side-count : goal.returns-else-side-count
 returns-else-side-count c =
-    ap (ltb 0) c.free-places.ensures
+    ap (ltb 0) c.free_places.ensures
     ∙ sym (free-kept c.args.side.now.concepts (book c.args.ledgers.now.concepts) (omega arith))

@@ -8,9 +8,9 @@ returns-then-at-text c = no_word c.args.text.now c.args.at c.if-at-text.true
 
 pub returns-then-count-eq0 : goal.returns-then-count-eq0
 returns-then-count-eq0 c =
-    letter_word_lem c.args.text.now c.args.at c.if-at-text.false (sym c.digit-count-count.ensures.value ∙ c.if-count-eq0.true)
+    letter_word_lem c.args.text.now c.args.at c.if-at-text.false (sym c.digit_count-count.ensures.value ∙ c.if-count-eq0.true)
 
 pub returns-else-count-eq0 : goal.returns-else-count-eq0
 returns-else-count-eq0 c =
-    rw (sub-zero c.digit-count-count.result)
-    (number_word_lem c.args.text.now c.args.at c.digit-count-count.result c.digit-count-count.ensures.value c.if-count-eq0.false)
+    rw (sub-zero c.digit_count-count.result)
+    (number_word_lem c.args.text.now c.args.at c.digit_count-count.result c.digit_count-count.ensures.value c.if-count-eq0.false)

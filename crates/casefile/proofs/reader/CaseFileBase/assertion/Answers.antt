@@ -12,7 +12,7 @@ returns-then-n-from c =
     let bytes = c.args.self.now.bytes.now in
     let n = file_counts bytes in
     let count = c.from.ensures ∙ ap (λ (k : Counts). k.assertions) c.header-counts.ensures in
-    row_read 4 read_assertion (assertions_at n) n.assertions c.from.result c.args.n (c.assertions-at.result + 4 * c.args.n) (numbers bytes) c.read_assertion_lem.result count c.if-n-from.true (omega (arith, ap assertions_at c.header-counts.ensures)) c.read_assertion_lem.ensures
+    row_read 4 read_assertion (assertions_at n) n.assertions c.from.result c.args.n (c.assertions_at.result + 4 * c.args.n) (numbers bytes) c.read_assertion.result count c.if-n-from.true (omega (arith, ap assertions_at c.header-counts.ensures)) c.read_assertion.ensures
 
 pub returns-else-n-from : goal.returns-else-n-from
 returns-else-n-from c =

@@ -12,7 +12,7 @@ returns-then-n-from c =
     let bytes = c.args.self.now.bytes.now in
     let n = file_counts bytes in
     let count = c.from.ensures ∙ ap (λ (k : Counts). k.entries) c.header-counts.ensures in
-    row_read 3 read_entry entries_at n.entries c.from.result c.args.n (6 + 3 * c.args.n) (numbers bytes) c.read_entry_lem.result count c.if-n-from.true refl c.read_entry_lem.ensures
+    row_read 3 read_entry entries_at n.entries c.from.result c.args.n (6 + 3 * c.args.n) (numbers bytes) c.read_entry.result count c.if-n-from.true refl c.read_entry.ensures
 
 pub returns-else-n-from : goal.returns-else-n-from
 returns-else-n-from c =

@@ -12,7 +12,7 @@ returns-then-n-from c =
     let bytes = c.args.self.now.bytes.now in
     let n = file_counts bytes in
     let count = c.from.ensures ∙ ap (λ (k : Counts). k.inclusions) c.header-counts.ensures in
-    row_read 2 read_inclusion (inclusions_at n) n.inclusions c.from.result c.args.n (c.inclusions-at.result + 2 * c.args.n) (numbers bytes) c.read_inclusion_lem.result count c.if-n-from.true (omega (arith, ap inclusions_at c.header-counts.ensures)) c.read_inclusion_lem.ensures
+    row_read 2 read_inclusion (inclusions_at n) n.inclusions c.from.result c.args.n (c.inclusions_at.result + 2 * c.args.n) (numbers bytes) c.read_inclusion.result count c.if-n-from.true (omega (arith, ap inclusions_at c.header-counts.ensures)) c.read_inclusion.ensures
 
 pub returns-else-n-from : goal.returns-else-n-from
 returns-else-n-from c =

@@ -12,7 +12,7 @@ returns-then-n-from c =
     let bytes = c.args.self.now.bytes.now in
     let n = file_counts bytes in
     let count = c.from.ensures ∙ ap (λ (k : Counts). k.keys) c.header-counts.ensures in
-    row_read 11 read_key (keys_at n) n.keys c.from.result c.args.n (c.keys-at.result + 11 * c.args.n) (numbers bytes) c.read_key_lem.result count c.if-n-from.true (omega (arith, ap keys_at c.header-counts.ensures)) c.read_key_lem.ensures
+    row_read 11 read_key (keys_at n) n.keys c.from.result c.args.n (c.keys_at.result + 11 * c.args.n) (numbers bytes) c.read_key.result count c.if-n-from.true (omega (arith, ap keys_at c.header-counts.ensures)) c.read_key.ensures
 
 pub returns-else-n-from : goal.returns-else-n-from
 returns-else-n-from c =

@@ -4,23 +4,23 @@ use Rattle.layers.specs.Tables.{listed}
 use Rattle.layers.proofs.GrowingLaws.{no_key, full_key, grown_key}
 use Rattle.layers.proofs.rules.Rules.grow_key.Goals as goal
 
-pub returns-in-err-key : goal.returns-in-err-key
-returns-in-err-key g c =
-    let r = c.from-residual.result in
-    let p = err_from_is_err_and r c.from-residual.ensures.1 in
+pub returns-in_err-key : goal.returns-in_err-key
+returns-in_err-key g c =
+    let r = c.from_residual.result in
+    let p = err_from_is_err_and r c.from_residual.ensures.1 in
     record {
-      keys = no_key c.args.pair (listed c.args.self.now.keys) c.args.number c.in-err-key.field-0.0 r (sym c.in-err-key.ensures) (p.1 ∙ ap Err p.2);
+      keys = no_key c.args.pair (listed c.args.self.now.keys) c.args.number c.in_err-key.field-0.0 r (sym c.in_err-key.ensures) (p.1 ∙ ap Err p.2);
       inclusions = refl;
       below = refl;
       refused = λ _ _. refl;
     }
 
-pub returns-in-err-pairs : goal.returns-in-err-pairs
-returns-in-err-pairs g c =
-    let r = c.from-residual-in-err-pairs.result in
-    let p = err_from_is_err_and r c.from-residual-in-err-pairs.ensures.1 in
+pub returns-in_err-pairs : goal.returns-in_err-pairs
+returns-in_err-pairs g c =
+    let r = c.from_residual-in_err-pairs.result in
+    let p = err_from_is_err_and r c.from_residual-in_err-pairs.ensures.1 in
     record {
-      keys = full_key c.args.pair (listed c.args.self.now.keys) c.args.number c.in-ok-key.key c.in-err-pairs.field-0.0 r (sym c.in-ok-key.ensures) (sym c.in-err-pairs.ensures) (p.1 ∙ ap Err p.2);
+      keys = full_key c.args.pair (listed c.args.self.now.keys) c.args.number c.in_ok-key.key c.in_err-pairs.field-0.0 r (sym c.in_ok-key.ensures) (sym c.in_err-pairs.ensures) (p.1 ∙ ap Err p.2);
       inclusions = refl;
       below = refl;
       refused = λ _ _. refl;
@@ -29,7 +29,7 @@ returns-in-err-pairs g c =
 pub returns : goal.returns
 returns g c =
     record {
-      keys = grown_key c.args.pair (listed c.args.self.now.keys) c.args.number c.in-ok-key.key c.in-ok-pairs.pairs (listed c.put.new.self) (sym c.in-ok-key.ensures) (sym c.in-ok-pairs.ensures) c.put.ensures;
+      keys = grown_key c.args.pair (listed c.args.self.now.keys) c.args.number c.in_ok-key.key c.in_ok-pairs.pairs (listed c.put.new.self) (sym c.in_ok-key.ensures) (sym c.in_ok-pairs.ensures) c.put.ensures;
       inclusions = refl;
       below = refl;
       refused = search rules;

@@ -11,4 +11,4 @@ returns-else-c-eq0 g c =
     let b = branch_in c.args.self.now in
     let k = c.in-Is.c in
     let row = any (concept_row_holds m b k c.in-Is.x) b.concepts in
-    c.some-concept-row.ensures m ∙ sym (ap (held m b) c.in-Is.is ∙ ap (λ t. t || row) (ne_eqb k.0 0 c.if-c-eq0.false))
+    c.some_concept_row.ensures m ∙ sym (ap (held m b) c.in-Is.is ∙ ap (λ t. t || row) (ne_eqb k.0 0 c.if-c-eq0.false))

@@ -10,14 +10,14 @@ use Rattle.sheet.proofs.PerformLaws.{close-by}
 use Rattle.sheet.proofs.SteppedLaws.{stepped_as}
 use Rattle.sheet.proofs.state.Sheet.close.Goals as goal
 
-pub is-held-before-is-held-requires : goal.is-held-before-is-held-requires
-is-held-before-is-held-requires g c =
+pub is_held_before-is_held-requires : goal.is_held_before-is_held-requires
+is_held_before-is_held-requires g c =
     let s = state_of c.args.self.now (ledgers_of c.args.ledgers.now) in
     let few = c.args.self.now.few in
     record { few = omega arith; named = rw c.requires.heads (fit-named (g.B.Base.meaning c.args.base.now) s c.requires.fit) }
 
-pub take-up-requires : goal.take-up-requires
-take-up-requires g c =
+pub take_up-requires : goal.take_up-requires
+take_up-requires g c =
     let s = state_of c.args.self.now (ledgers_of c.args.ledgers.now) in
     let few = c.args.self.now.few in
     let noted = fit-side (g.B.Base.meaning c.args.base.now) s c.requires.fit c.in-Some.side (sym c.in-Some.ensures) in
@@ -28,4 +28,4 @@ returns-in-Some g c =
     let m = g.B.Base.meaning c.args.base.now in
     let s = state_of c.args.self.now (ledgers_of c.args.ledgers.now) in
     let p = c.in-Some.side in
-    stepped_as (ap (take_up_by s p) c.is-held-before-is-held.ensures ∙ sym (close-by m s p) ∙ ap (close m s) c.in-Some.ensures) c.take-up.ensures
+    stepped_as (ap (take_up_by s p) c.is_held_before-is_held.ensures ∙ sym (close-by m s p) ∙ ap (close m s) c.in-Some.ensures) c.take_up.ensures

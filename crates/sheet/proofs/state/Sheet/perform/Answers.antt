@@ -10,8 +10,8 @@ use Rattle.sheet.proofs.SteppedLaws.{stepped_as}
 use Rattle.table.specs.Rules.{rule_of}
 use Rattle.sheet.proofs.state.Sheet.perform.Goals as goal
 
-pub look-up-requires : goal.look-up-requires
-look-up-requires g c =
+pub look_up-requires : goal.look_up-requires
+look_up-requires g c =
     let s = state_of c.args.self.now (ledgers_of c.args.ledgers.now) in
     let few = c.args.self.now.few in
     record { few = omega arith; named = rw c.requires.heads (fit-named (g.B.Base.meaning c.args.base.now) s c.requires.fit) }
@@ -21,5 +21,5 @@ returns-else-rule g c =
     let m = g.B.Base.meaning c.args.base.now in
     let s = state_of c.args.self.now (ledgers_of c.args.ledgers.now) in
     let q = rule_of c.args.rule.now in
-    let looked = c.in-ok-new.ensures ∙ ap (λ n. looked_up m (branch_of s.ledgers n) q) c.requires.heads in
-    stepped_as (sym (perform-extends m s q c.in-ok-new.new looked (omega arith) c.if-rule.false)) c.extend.ensures
+    let looked = c.in_ok-new.ensures ∙ ap (λ n. looked_up m (branch_of s.ledgers n) q) c.requires.heads in
+    stepped_as (sym (perform-extends m s q c.in_ok-new.new looked (omega arith) c.if-rule.false)) c.extend.ensures

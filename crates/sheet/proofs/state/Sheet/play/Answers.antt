@@ -11,13 +11,13 @@ use Rattle.sheet.proofs.state.Sheet.play.Goals as goal
 pub slice-bounds-perform-end : goal.slice-bounds-perform-end
 slice-bounds-perform-end g c =
     let s = state_of c.args.self.now (ledgers_of c.args.ledgers.now) in
-    let own = ready-fits (g.B.Base.meaning c.args.base.now) (length c.args.scratch.now) s (sym c.in-ok-check-ready.ensures) in
+    let own = ready-fits (g.B.Base.meaning c.args.base.now) (length c.args.scratch.now) s (sym c.in_ok-check_ready.ensures) in
     omega (arith, own.1, c.args.self.now.few, c.from-individuals.ensures)
 
 pub perform-requires : goal.perform-requires
 perform-requires g c =
     let s = state_of c.args.self.now (ledgers_of c.args.ledgers.now) in
-    let own = ready-fits (g.B.Base.meaning c.args.base.now) (length c.args.scratch.now) s (sym c.in-ok-check-ready.ensures) in
+    let own = ready-fits (g.B.Base.meaning c.args.base.now) (length c.args.scratch.now) s (sym c.in_ok-check_ready.ensures) in
     record { fit = own.0; heads = simp length-take (omega (arith, own.1, c.args.self.now.few, c.from-individuals.ensures)) }
 
 pub returns : goal.returns
@@ -27,4 +27,4 @@ returns g c =
     let k = length c.args.scratch.now in
     let t = c.args.step.now in
     stepped-played m k t s
-    (stepped_as (sym (play_performs m k t s (rule_of c.in-ok-rule.rule) (sym c.in-ok-check-ready.ensures) (sym c.in-ok-rule.ensures))) c.perform.ensures)
+    (stepped_as (sym (play_performs m k t s (rule_of c.in_ok-rule.rule) (sym c.in_ok-check_ready.ensures) (sym c.in_ok-rule.ensures))) c.perform.ensures)
