@@ -1,5 +1,5 @@
 -- A branch of a tableau: rows and individuals; which individuals are equal on it, and what it holds.
-use Rattle.std.specs.Prelude.{◌≡◌, ℕ, min, Bool, true, false, cond, ◌&&◌, ◌||◌, List, [], ◌∷◌, Ok, ◌==◌}
+use Rattle.std.specs.Prelude.{◌≡◌, ℕ, min, Bool, false, cond, ◌&&◌, ◌||◌, List, [], ◌∷◌, Ok, ◌==◌}
 use Rattle.rows.specs.Rows.{row_at}
 use Rattle.kb.specs.declared.axioms.Assertion.{Assertion}
 use Rattle.kb.specs.declared.axioms.Assertion.TheVariants.{Is, Joins, Same, Different, Unlisted}

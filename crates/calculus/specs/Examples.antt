@@ -1,5 +1,5 @@
 -- Worked examples: bases, lines played on a new sheet, and what comes of it.
-use Rattle.std.specs.Prelude.{◌≡◌, ℕ, Bool, true, false, List, [], ◌∷◌, ◌++◌, map, length, replicate, Ok, Err, Result}
+use Rattle.std.specs.Prelude.{◌≡◌, ℕ, true, false, List, [], ◌∷◌, ◌++◌, map, length, replicate, Ok, Err, Result}
 use Rattle.std.specs.Borrow.{Bor}
 use Rattle.rows.specs.Rows.{refusal}
 use Rattle.kb.specs.declared.axioms.Assertion.TheVariants.{Is, Joins, Different}
@@ -12,8 +12,7 @@ use Rattle.kb.specs.declared.names.Role.{Role}
 use Rattle.kb.specs.declared.statement.Statement.TheVariants.{Key as KeyStatement}
 use Rattle.kb.specs.Meanings.{Meaning}
 use Rattle.kb.specs.Questions.{asking}
-use Rattle.ledger.specs.Books.{Book, unused}
-use Rattle.calculus.specs.declared.fault.StepFault.{StepFault}
+use Rattle.ledger.specs.Books.{unused}
 use Rattle.calculus.specs.declared.review.Finding.{Finding}
 use Rattle.calculus.specs.declared.review.Finding.TheVariants.{Closed, Open}
 use Rattle.calculus.specs.declared.review.ReviewFault.{ReviewFault}

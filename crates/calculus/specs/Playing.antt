@@ -1,8 +1,7 @@
 -- Opening a sheet, and playing a step on it.
-use Rattle.std.specs.Prelude.{ℕ, ◌+◌, ◌-◌, Bool, true, false, cond, not, ◌&&◌, ◌||◌, List, [], ◌∷◌, length, Some, None, Ok, Err, Option, Result, nat_le, nat_lt}
+use Rattle.std.specs.Prelude.{ℕ, ◌+◌, ◌-◌, Bool, true, false, cond, ◌&&◌, List, [], ◌∷◌, length, Some, None, Ok, Err, Option, Result, nat_le, nat_lt}
 use Rattle.kb.specs.declared.axioms.Assertion.{Assertion}
 use Rattle.kb.specs.declared.axioms.Assertion.TheVariants.{Is, Joins, Same, Different, Unlisted}
-use Rattle.kb.specs.declared.counts.Counts.{Counts}
 use Rattle.kb.specs.Meanings.{Meaning, counts_of}
 use Rattle.ledger.specs.Books.{Book, push, cut}
 use Rattle.calculus.specs.declared.fault.StepFault.{StepFault}

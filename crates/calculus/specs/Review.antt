@@ -1,7 +1,6 @@
 -- Blocking, the eight conditions of review, and what review says. Each condition is a test that computes.
 use Rattle.std.specs.Prelude.{ℕ, zero, suc, ◌+◌, ◌*◌, Bool, true, false, cond, not, ◌&&◌, ◌||◌, List, [], ◌∷◌, length, Some, None, Ok, Err, Option, Result, nat_le, nat_lt}
-use Rattle.kb.specs.declared.axioms.Assertion.{Assertion}
-use Rattle.kb.specs.declared.axioms.Assertion.TheVariants.{Is, Joins, Same, Different}
+use Rattle.kb.specs.declared.axioms.Assertion.TheVariants.{Is, Joins, Different}
 use Rattle.kb.specs.declared.axioms.Inclusion.{Inclusion}
 use Rattle.kb.specs.declared.axioms.Key.{Key}
 use Rattle.kb.specs.declared.axioms.Key.TheVariants.{Link, Unlisted as UnlistedKey}
@@ -18,7 +17,7 @@ use Rattle.calculus.specs.declared.review.Finding.TheVariants.{Closed, Open}
 use Rattle.calculus.specs.declared.review.ReviewFault.{ReviewFault}
 use Rattle.calculus.specs.declared.review.ReviewFault.TheVariants.{Changed, Full, Condition}
 use Rattle.calculus.specs.declared.rows.ConceptRow.{ConceptRow}
-use Rattle.calculus.specs.Branches.{Branch, any, equal, held}
+use Rattle.calculus.specs.Branches.{Branch, equal, held}
 use Rattle.calculus.specs.States.{State, branch, every, fits}
 
 abbrev pub individual : ℕ → Individual

@@ -8,9 +8,9 @@ use casefile::file::CaseFile;
 use kb::check::check_base;
 use kb::counts::Counts;
 use kb::fault::BaseFault;
-use std::fmt;
+use std::alloc::AllocError;
 
-fn write_base_answer(out: &mut String, answer: Result<Counts, BaseFault>) -> fmt::Result
+fn write_base_answer(out: &mut String, answer: Result<Counts, BaseFault>) -> Result<(), AllocError>
     ensures { Wrote result (string_bytes out.old) (base_answer answer) (string_bytes out.new) }
 {
     match answer {
@@ -27,7 +27,7 @@ fn write_base_answer(out: &mut String, answer: Result<Counts, BaseFault>) -> fmt
     }
 }
 
-pub(crate) fn write_answer(out: &mut String, file: &CaseFile<'_>) -> fmt::Result
+pub(crate) fn write_answer(out: &mut String, file: &CaseFile<'_>) -> Result<(), AllocError>
     ensures { Wrote result (string_bytes out.old) (answer_line file.now.bytes.now) (string_bytes out.new) }
 {
     match file.check() {

@@ -7,9 +7,9 @@ use crate::words::{write_assertion, write_entry, write_inclusion, write_key};
 use kb::base::Base;
 use kb::counts::Counts;
 use kb::fault::RowList;
-use std::fmt;
+use std::alloc::AllocError;
 
-fn write_name_counts(out: &mut String, n: Counts) -> fmt::Result
+fn write_name_counts(out: &mut String, n: Counts) -> Result<(), AllocError>
     ensures { Wrote result (string_bytes out.old) (name_counts_line n) (string_bytes out.new) }
 {
     write!(
@@ -19,7 +19,7 @@ fn write_name_counts(out: &mut String, n: Counts) -> fmt::Result
     )
 }
 
-fn write_axiom_counts(out: &mut String, n: Counts) -> fmt::Result
+fn write_axiom_counts(out: &mut String, n: Counts) -> Result<(), AllocError>
     ensures { Wrote result (string_bytes out.old) (axiom_counts_line n) (string_bytes out.new) }
 {
     write!(
@@ -29,7 +29,7 @@ fn write_axiom_counts(out: &mut String, n: Counts) -> fmt::Result
     )
 }
 
-fn write_row<B: Base>(out: &mut String, base: &B, list: RowList, k: u16) -> fmt::Result
+fn write_row<B: Base>(out: &mut String, base: &B, list: RowList, k: u16) -> Result<(), AllocError>
     ensures { Wrote result (string_bytes out.old) (row_text (B.meaning base.now) list k) (string_bytes out.new) }
 {
     match list {
@@ -52,7 +52,7 @@ fn write_row<B: Base>(out: &mut String, base: &B, list: RowList, k: u16) -> fmt:
     }
 }
 
-fn write_list<B: Base>(out: &mut String, base: &B, list: RowList) -> fmt::Result
+fn write_list<B: Base>(out: &mut String, base: &B, list: RowList) -> Result<(), AllocError>
     ensures { Wrote result (string_bytes out.old) (list_text (B.meaning base.now) list) (string_bytes out.new) }
 {
     for k in 0..base.counts().of(list) {
@@ -61,7 +61,7 @@ fn write_list<B: Base>(out: &mut String, base: &B, list: RowList) -> fmt::Result
     Ok(())
 }
 
-pub(crate) fn write_base<B: Base>(out: &mut String, base: &B) -> fmt::Result
+pub(crate) fn write_base<B: Base>(out: &mut String, base: &B) -> Result<(), AllocError>
     ensures { Wrote result (string_bytes out.old) (base_text (B.meaning base.now)) (string_bytes out.new) }
 {
     let counts = base.counts();

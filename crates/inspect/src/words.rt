@@ -6,9 +6,9 @@ ghost use Rattle.std.specs.Prelude.{string_bytes};
 use kb::axioms::{Assertion, Inclusion, Key, RolePair, RolePairs};
 use kb::lexicon::Entry;
 use kb::names::{Concept, Individual, Role};
-use std::fmt;
+use std::alloc::AllocError;
 
-pub(crate) fn write_entry(out: &mut String, k: u16, entry: Entry) -> fmt::Result
+pub(crate) fn write_entry(out: &mut String, k: u16, entry: Entry) -> Result<(), AllocError>
     ensures { Wrote result (string_bytes out.old) (entry_line k entry) (string_bytes out.new) }
 {
     match entry {
@@ -26,7 +26,7 @@ pub(crate) fn write_entry(out: &mut String, k: u16, entry: Entry) -> fmt::Result
     }
 }
 
-pub(crate) fn write_assertion(out: &mut String, k: u16, assertion: Assertion) -> fmt::Result
+pub(crate) fn write_assertion(out: &mut String, k: u16, assertion: Assertion) -> Result<(), AllocError>
     ensures { Wrote result (string_bytes out.old) (assertion_line k assertion) (string_bytes out.new) }
 {
     match assertion {
@@ -56,7 +56,7 @@ pub(crate) fn write_assertion(out: &mut String, k: u16, assertion: Assertion) ->
     }
 }
 
-pub(crate) fn write_inclusion(out: &mut String, k: u16, inclusion: Inclusion) -> fmt::Result
+pub(crate) fn write_inclusion(out: &mut String, k: u16, inclusion: Inclusion) -> Result<(), AllocError>
     ensures { Wrote result (string_bytes out.old) (inclusion_line k inclusion) (string_bytes out.new) }
 {
     let Concept(c) = inclusion.sub;
@@ -64,13 +64,13 @@ pub(crate) fn write_inclusion(out: &mut String, k: u16, inclusion: Inclusion) ->
     write!(out, "inclusion {k}: concept {c} in concept {d}\n")
 }
 
-fn write_pair(out: &mut String, pair: RolePair) -> fmt::Result
+fn write_pair(out: &mut String, pair: RolePair) -> Result<(), AllocError>
     ensures { Wrote result (string_bytes out.old) (pair_words pair) (string_bytes out.new) }
 {
     write!(out, ", roles {} and {}", pair.left.0, pair.right.0)
 }
 
-fn write_pairs(out: &mut String, pairs: RolePairs) -> fmt::Result
+fn write_pairs(out: &mut String, pairs: RolePairs) -> Result<(), AllocError>
     ensures { Wrote result (string_bytes out.old) (pairs_words pairs) (string_bytes out.new) }
 {
     match pairs {
@@ -93,19 +93,19 @@ fn write_pairs(out: &mut String, pairs: RolePairs) -> fmt::Result
     }
 }
 
-fn write_classes(out: &mut String, k: u16, c: Concept, d: Concept) -> fmt::Result
+fn write_classes(out: &mut String, k: u16, c: Concept, d: Concept) -> Result<(), AllocError>
     ensures { Wrote result (string_bytes out.old) (class_words k c d) (string_bytes out.new) }
 {
     write!(out, "key {k}: concepts {} and {}", c.0, d.0)
 }
 
-fn write_newline(out: &mut String) -> fmt::Result
+fn write_newline(out: &mut String) -> Result<(), AllocError>
     ensures { Wrote result (string_bytes out.old) newline (string_bytes out.new) }
 {
     write!(out, "\n")
 }
 
-pub(crate) fn write_key(out: &mut String, k: u16, key: Key) -> fmt::Result
+pub(crate) fn write_key(out: &mut String, k: u16, key: Key) -> Result<(), AllocError>
     ensures { Wrote result (string_bytes out.old) (key_line k key) (string_bytes out.new) }
 {
     match key {

@@ -6,7 +6,7 @@ pub returns-in-Some : goal.returns-in-Some
 returns-in-Some g c = found_here c.individuals-x-end.ensures c.loop-x.invariant c.loop-x-test.true c.in-Some.ensures
 
 pub loop-x-preserved : goal.loop-x-preserved
-loop-x-preserved g c = found-more c.loop-x.invariant c.in-default.ensures
+loop-x-preserved g c = found-more c.loop-x.invariant c.in_default.ensures
 
 pub returns : goal.returns
 returns g c = found_all c.individuals-x-end.ensures c.loop-x.invariant c.loop-x-test.false c.loop-x.auto.x-end

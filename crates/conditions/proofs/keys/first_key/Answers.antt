@@ -8,7 +8,7 @@ pub returns-in-Some : goal.returns-in-Some
 returns-in-Some g c = found_here (ap (λ (n : Counts). n.keys) c.counts-n-end.ensures) c.loop-n.invariant c.loop-n-test.true c.in-Some.ensures
 
 pub loop-n-preserved : goal.loop-n-preserved
-loop-n-preserved g c = found-more c.loop-n.invariant c.in-default.ensures
+loop-n-preserved g c = found-more c.loop-n.invariant c.in_default.ensures
 
 pub returns : goal.returns
 returns g c = found_all (ap (λ (n : Counts). n.keys) c.counts-n-end.ensures) c.loop-n.invariant c.loop-n-test.false c.loop-n.auto.n-end

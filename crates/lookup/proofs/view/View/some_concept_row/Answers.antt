@@ -35,4 +35,4 @@ returns c m =
     let v = c.args.self.now in
     let asked : ConceptRow = record { concept = c.args.c; individual = c.args.x } in
     sym (c.loop-place.invariant m
-    ∙ any-first-none concept_rows_alike asked (of_equal v.pairs.now asked) v.concepts.now c.loop-place.from c.in-default.ensures.value)
+    ∙ any-first-none concept_rows_alike asked (of_equal v.pairs.now asked) v.concepts.now c.loop-place.from c.in_default.ensures.value)
