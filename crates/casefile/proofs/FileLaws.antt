@@ -1,5 +1,5 @@
 -- Where the rows of a case file stand.
-use Rattle.std.proofs.Common.{◌≡◌, ℕ, zero, suc, ◌+◌, ◌*◌, ◌<◌, ◌≤◌, true, false, cond, List, [], ◌∷◌, length, drop, Ok, Err, sym, refl, ap, ◌∙◌, mul-suc, arith}
+use Rattle.std.proofs.Common.{◌≡◌, ℕ, zero, suc, ◌+◌, ◌*◌, ◌<◌, ◌≤◌, List, drop, Ok, Err, sym, ap, ◌∙◌, mul-suc, arith}
 use Rattle.std.proofs.lemmas.List.{drop-drop}
 use Rattle.rows.specs.declared.fault.RowFault.TheVariants.{NoSuchRow}
 use Rattle.rows.specs.Rows.{row_at}

@@ -1,5 +1,5 @@
 -- When two bases belong together.
-use Rattle.std.specs.Prelude.{◌≡◌, ℕ, List, [], ◌∷◌, Ok, Err, Result}
+use Rattle.std.specs.Prelude.{◌≡◌, ℕ, List, [], ◌∷◌, Ok, Result}
 use Rattle.rows.specs.Rows.{refusal}
 use Rattle.kb.specs.Meanings.{Meaning}
 use Rattle.join.specs.declared.fault.JoinFault.{JoinFault}

@@ -13,7 +13,7 @@ use Rattle.kb.specs.Numbers.{pair_list}
 use Rattle.layers.specs.declared.fault.LayerFault.{LayerFault}
 use Rattle.layers.specs.declared.fault.LayerFault.TheVariants.{Full, Row}
 use Rattle.layers.specs.declared.rules.LinkKey.{LinkKey}
-use Rattle.layers.specs.Growing.{with_pair, PairMore, KeyGrown, KeyGrownAt}
+use Rattle.layers.specs.Growing.{with_pair, PairMore, KeyGrown}
 use Rattle.layers.specs.Views.{link_of}
 
 pub row_at-set-same : {X : Type 0} (xs : List X) (n : ℕ) (x y : X) → row_at xs n ≡ Ok x → row_at (set xs n y) n ≡ Ok y

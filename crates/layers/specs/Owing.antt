@@ -1,5 +1,5 @@
 -- What each layer owes of its meaning follows from what is owed of what it stands on. Implementations name these proofs.
-use Rattle.std.specs.Prelude.{List, map}
+use Rattle.std.specs.Prelude.{List}
 use Rattle.std.proofs.Common.{arith}
 use Rattle.kb.specs.declared.axioms.Inclusion.{Inclusion}
 use Rattle.kb.specs.declared.axioms.Key.{Key}

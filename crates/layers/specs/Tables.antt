@@ -1,5 +1,5 @@
 -- A table of at most so many rows, and what one row more makes of it.
-use Rattle.std.specs.Prelude.{◌≡◌, ℕ, ◌<◌, ◌≤◌, List, [], ◌∷◌, ◌++◌, length, take, Ok, Err, Result}
+use Rattle.std.specs.Prelude.{◌≡◌, ℕ, ◌<◌, ◌≤◌, List, [], ◌∷◌, ◌++◌, length, take, Ok, Result}
 use Rattle.rows.specs.Rows.{refusal}
 use Rattle.layers.specs.declared.fault.LayerFault.{LayerFault}
 use Rattle.layers.specs.declared.table.Table.{Table}

@@ -1,5 +1,5 @@
 -- Questions: what the base that asks a statement says of the base below.
-use Rattle.std.proofs.Common.{◌≡◌, ℕ, zero, suc, ◌%◌, ◌<◌, ◌⊎◌, List, ◌++◌, length, sym, refl, subst, inl, inr, ⊎_elim, arith}
+use Rattle.std.proofs.Common.{◌≡◌, ℕ, ◌<◌, ◌⊎◌, List, ◌++◌, length, sym, subst, inl, inr, ⊎_elim}
 use Rattle.std.proofs.ByRecursion.{All-append, All-weaker}
 use Rattle.std.proofs.lemmas.Slice.Eq.{bytes_eq-Decides}
 use Rattle.std.proofs.lemmas.Bool.{and_parts, both_ways, cases_Bool, ltb-true}
@@ -7,7 +7,6 @@ use Rattle.std.specs.List.{AllByRecursion as All}
 use Rattle.std.specs.Str.{bytes_eq}
 use Rattle.kb.proofs.NameLaws.{complement_entry}
 use Rattle.kb.specs.declared.axioms.Inclusion.{Inclusion as InclusionRow}
-use Rattle.kb.specs.declared.names.Concept.{Concept}
 use Rattle.kb.specs.declared.statement.Statement.{Statement}
 use Rattle.kb.specs.declared.statement.Statement.TheVariants.{Key, Inclusion, Same}
 use Rattle.kb.specs.Check.{InRange}

@@ -10,7 +10,7 @@ use Rattle.kb.specs.Questions.{asking}
 use Rattle.calculus.specs.declared.review.Finding.{Finding}
 use Rattle.calculus.specs.declared.review.Finding.TheVariants.{Closed, Open}
 use Rattle.calculus.specs.declared.review.ReviewFault.{ReviewFault}
-use Rattle.calculus.specs.declared.review.ReviewFault.TheVariants.{Changed, Full, Condition}
+use Rattle.calculus.specs.declared.review.ReviewFault.TheVariants.{Changed, Full}
 use Rattle.calculus.specs.Conditions.{Conditions}
 use Rattle.calculus.specs.Review.{found, lowest_failing, review}
 use Rattle.calculus.specs.Playing.{opened}

@@ -1,12 +1,11 @@
 -- On every sheet that is reached, base and ledgers are the sheet's: no step or review of a run is refused with 5.
-use Rattle.std.proofs.Common.{◌≡◌, ℕ, ◌+◌, ◌<◌, ◌≤◌, Bool, true, false, ◌&&◌, eqb, ltb, leb, ◌⊎◌, List, [], ◌∷◌, ◌++◌, reverse, length, take, Some, None, Ok, Err, Option, Result, sym, refl, ap, ◌∙◌, subst, inl, inr, ⊎_elim, arith, length-append}
+use Rattle.std.proofs.Common.{◌≡◌, ℕ, ◌<◌, ◌≤◌, Bool, true, ◌⊎◌, List, [], ◌∷◌, ◌++◌, reverse, length, take, Some, None, Ok, Err, Option, Result, sym, refl, ap, ◌∙◌, subst, inl, inr, ⊎_elim, arith, length-append}
 use Rattle.std.specs.List.{AllByRecursion as All}
 use Rattle.std.proofs.ByRecursion.{All-weaker}
 use Rattle.std.proofs.lemmas.List.{length-take-le, reverse-reverse}
 use Rattle.std.proofs.lemmas.Bool.{and_from, cases_Bool, eq-eqb, le-leb, lt-ltb}
 use Rattle.rows.specs.Rows.{row_at}
 use Rattle.kb.specs.declared.counts.Counts.{Counts}
-use Rattle.kb.specs.Check.{InRange}
 use Rattle.kb.specs.Meanings.{Meaning, counts_of}
 use Rattle.kb.specs.Names.{entry_number}
 use Rattle.ledger.specs.Books.{Book, cut, size}
@@ -16,12 +15,11 @@ use Rattle.calculus.specs.declared.rows.ConceptRow.{ConceptRow}
 use Rattle.calculus.specs.declared.rows.PairRow.{PairRow}
 use Rattle.calculus.specs.declared.rows.PairRow.TheVariants.{Same as SameRow, Different as DifferentRow}
 use Rattle.calculus.specs.declared.rows.PendingRow.{PendingRow}
-use Rattle.calculus.specs.declared.rows.RoleRow.{RoleRow}
 use Rattle.calculus.specs.declared.step.Step.{Step}
 use Rattle.calculus.specs.Branches.{held}
-use Rattle.calculus.specs.Playing.{Played, emptied, left, opened, play}
+use Rattle.calculus.specs.Playing.{Played, left, opened, play}
 use Rattle.calculus.specs.Runs.{Run, start, step}
-use Rattle.calculus.specs.States.{Ledgers, State, branch, concept_row_fits, every, fits, pair_row_fits, pending_row_fits, role_row_fits, row_counts, rows_fit, same_counts, same_lengths, sizes_of}
+use Rattle.calculus.specs.States.{Ledgers, State, branch, every, fits, pair_row_fits, pending_row_fits, row_counts, rows_fit, same_counts, same_lengths, sizes_of}
 use Rattle.calculus.specs.StepLaws.{ClosedSheet, Extended, StepLaw, TakenUp, cut_back, side_of}
 use Rattle.calculus.specs.Table.{Rule, rule}
 use Rattle.calculus.proofs.AcceptedLaws.{step-law}

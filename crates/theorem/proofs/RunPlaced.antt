@@ -19,12 +19,12 @@ use Rattle.calculus.specs.declared.rows.RoleRow.{RoleRow}
 use Rattle.calculus.specs.declared.step.Step.{Step}
 use Rattle.calculus.specs.Branches.{Branch, held}
 use Rattle.calculus.specs.Holding.{Held}
-use Rattle.calculus.specs.Playing.{Played, Written, accepted, close, cut_to, extend, free, individuals_after, last_of, left, note, noteable, opened, perform, play, ready, room, write, write_missing}
+use Rattle.calculus.specs.Playing.{Played, Written, accepted, close, cut_to, extend, free, individuals_after, last_of, left, note, noteable, opened, perform, play, ready, write, write_missing}
 use Rattle.calculus.specs.Runs.{Run, start, step}
 use Rattle.calculus.specs.States.{Ledgers, State, branch, branch_of, every, fits}
 use Rattle.calculus.specs.Table.{Rule, and_then, rule}
 use Rattle.calculus.proofs.Accepting.{Err_not_Ok, Ok_injective, and_then_Ok, cond_Ok}
-use Rattle.theorem.proofs.Growing.{cut-grown, cut-noted, cut_branch, Grown, grown-with_side, last_of_Some, noted, push-rows, reopened, reopened-grown, reverse-push, Within, within-noted, with_side, write_missing-grown, write_missing_keeps, write_missing-side}
+use Rattle.theorem.proofs.Growing.{cut-grown, cut-noted, Grown, grown-with_side, last_of_Some, noted, push-rows, reopened, reopened-grown, reverse-push, Within, within-noted, with_side, write_missing-grown, write_missing_keeps, write_missing-side}
 use Rattle.theorem.proofs.PlacedEqual.{new_alone_right}
 use Rattle.theorem.proofs.PlacedRows.{Placeable, placed-new, side-placed, write-placed}
 use Rattle.theorem.proofs.PlacedTable.{Line, adds-held, adds-new, adds-rows, closes, splits, table-placed}

@@ -1,16 +1,14 @@
 -- What concepts come to on walks: each entry's concept is as the entry says, and its complement the opposite.
-use Rattle.std.proofs.Common.{◌≡◌, ℕ, zero, suc, ◌+◌, ◌*◌, ◌/◌, ◌%◌, ◌<◌, Bool, true, false, not, ◌&&◌, ◌||◌, eqb, ltb, List, [], ◌∷◌, ◌++◌, Ok, Result, sym, ap, ◌∙◌, subst, ⊎_elim, arith}
+use Rattle.std.proofs.Common.{◌≡◌, ℕ, zero, suc, ◌+◌, ◌*◌, ◌/◌, ◌%◌, ◌<◌, Bool, true, false, not, ◌&&◌, ◌||◌, eqb, ltb, List, [], ◌∷◌, ◌++◌, Ok, sym, ap, ◌∙◌, subst, ⊎_elim, arith}
 use mathlib.Core.Bool.{false≢true}
 use Rattle.std.proofs.lemmas.Bool.{and_from, and_parts, cases_eq, cond-false, cond-true, eq-eqb, eqb-true, ltb-true, ne_eqb, not-true, or_cases, or_left, or_right}
-use Rattle.rows.specs.declared.fault.RowFault.{RowFault}
 use Rattle.rows.specs.Rows.{row_at}
 use Rattle.rows.proofs.RowLaws.{row_at-found}
-use Rattle.kb.proofs.NameLaws.{complement_entry}
 use Rattle.kb.specs.declared.lexicon.Entry.{Entry}
 use Rattle.kb.specs.declared.lexicon.Entry.TheVariants.{Top, Name, Both, Some, Unlisted}
 use Rattle.kb.specs.declared.names.Concept.{Concept}
 use Rattle.kb.specs.declared.names.Role.{Role}
-use Rattle.kb.specs.Check.{InRange, there_and}
+use Rattle.kb.specs.Check.{InRange}
 use Rattle.kb.specs.Interpretations.{EntryAt, JoinedInto}
 use Rattle.kb.specs.Meanings.{Meaning, counts_of}
 use Rattle.kb.specs.Names.{complement, entry_number}

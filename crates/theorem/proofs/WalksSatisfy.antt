@@ -20,7 +20,7 @@ use Rattle.kb.specs.declared.names.Role.{Role}
 use Rattle.kb.specs.Check.{InRange}
 use Rattle.kb.specs.Interpretations.{Asserted, Included, Keyed, KeyedRow, Lawful, Satisfies, Share}
 use Rattle.kb.specs.Meanings.{Meaning, counts_of}
-use Rattle.kb.specs.Names.{complement, entry_number}
+use Rattle.kb.specs.Names.{entry_number}
 use Rattle.kb.specs.Numbers.{pair_list}
 use Rattle.kb.specs.Range.{assertion_in_range, concept_in_range, inclusion_in_range, individual_in_range, key_in_range, pairs_in_range, role_in_range}
 use Rattle.calculus.specs.Branches.{Branch, head_of}

@@ -12,15 +12,15 @@ loop-n-init c = c.push.ensures ∙ ap (λ x. x ++ c.args.letter ∷ []) c.none-t
 pub push-requires-in-loop-n : goal.push-requires-in-loop-n
 push-requires-in-loop-n c =
     let ns = c.args.numbers.now in
-    let size = spelled-size c.args.letter ns c.loop-n.n-index (typed_small ns c.type-inv.numbers) in
+    let size = spelled-size c.args.letter ns c.loop-n.n-index (typed_small ns c.type_inv.numbers) in
     (lit< tt, omega (arith, c.requires, size, ap length c.loop-n.invariant))
 
 pub spell_number-requires : goal.spell_number-requires
 spell_number-requires c =
     let ns = c.args.numbers.now in
     let i = c.loop-n.n-index in
-    let size = spelled-size c.args.letter ns i (typed_small ns c.type-inv.numbers) in
-    let small : get_or ns i 0 ≤ 65535 = omega (arith, (c.type-inv.numbers i).fits) in
+    let size = spelled-size c.args.letter ns i (typed_small ns c.type_inv.numbers) in
+    let small : get_or ns i 0 ≤ 65535 = omega (arith, (c.type_inv.numbers i).fits) in
     omega (arith, c.requires, size, ap length c.loop-n.invariant, ap length c.push-in-loop-n.ensures, length_push (items c.loop-n.text) 32, decimal_size (get_or ns i 0) small)
 
 pub loop-n-preserved : goal.loop-n-preserved
@@ -31,7 +31,7 @@ loop-n-preserved c =
 pub push-requires-2 : goal.push-requires-2
 push-requires-2 c =
     let ns = c.args.numbers.now in
-    let size = spelled-size c.args.letter ns c.loop-n.n-index (typed_small ns c.type-inv.numbers) in
+    let size = spelled-size c.args.letter ns c.loop-n.n-index (typed_small ns c.type_inv.numbers) in
     (lit< tt, omega (arith, c.requires, size, ap length c.loop-n.invariant))
 
 pub returns : goal.returns
@@ -40,5 +40,5 @@ returns c =
     let all = take_all c.loop-n.n-index ns c.loop-n-test.false in
     record {
       text = c.push-2.ensures ∙ ap (λ x. x ++ 10 ∷ []) (c.loop-n.invariant ∙ ap (λ x. c.args.letter ∷ flat_map number_text x) all);
-      small = typed_small ns c.type-inv.numbers;
+      small = typed_small ns c.type_inv.numbers;
     }

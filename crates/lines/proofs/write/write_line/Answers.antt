@@ -17,8 +17,8 @@ pub returns-then-size-buffer : goal.returns-then-size-buffer
 returns-then-size-buffer c =
     let s = c.args.step.now in
     let line =
-    spelled_step s c.in_ok-numbers.numbers c.letter_of.result c.all.result.now (items c.spell-spelled.result) c.all_line.result.now
-    c.in_ok-numbers.ensures c.letter_of.ensures c.all.ensures c.spell-spelled.ensures.text c.spell-spelled.ensures.small c.all_line.ensures in
+    spelled_step s c.in_ok-numbers.numbers c.letter_of.result c.all.result.now (items c.spell-spelled.result) c.all-line.result.now
+    c.in_ok-numbers.ensures c.letter_of.ensures c.all.ensures c.spell-spelled.ensures.text c.spell-spelled.ensures.small c.all-line.ensures in
     let h : length c.args.buffer.now < length (step_text s) = omega (arith, ap length line.text) in
     let a = short s c.args.buffer.now line.fit h in
     record { value = a.value; bytes = a.bytes; means = a.means }
@@ -27,10 +27,10 @@ pub returns : goal.returns
 returns c =
     let s = c.args.step.now in
     let before = c.args.buffer.now in
-    let bytes = c.all_line.result.now in
+    let bytes = c.all-line.result.now in
     let line =
     spelled_step s c.in_ok-numbers.numbers c.letter_of.result c.all.result.now (items c.spell-spelled.result) bytes
-    c.in_ok-numbers.ensures c.letter_of.ensures c.all.ensures c.spell-spelled.ensures.text c.spell-spelled.ensures.small c.all_line.ensures in
+    c.in_ok-numbers.ensures c.letter_of.ensures c.all.ensures c.spell-spelled.ensures.text c.spell-spelled.ensures.small c.all-line.ensures in
     let a =
     wrote s before (length bytes) _ (ap length line.text) line.fit c.if-size-buffer.false
     (ap (λ x. x ++ drop (length bytes - 0) before) (c.copy_from_slice.ensures.after ∙ line.text) ∙ ap (λ k. step_text s ++ drop k before) (sub-zero (length bytes))) in

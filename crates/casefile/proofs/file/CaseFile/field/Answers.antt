@@ -1,4 +1,4 @@
-use Rattle.std.proofs.Common.{drop, sym, ◌∙◌}
+use Rattle.std.proofs.Common.{sym, ◌∙◌}
 use Rattle.std.proofs.lemmas.List.{get_or-drop}
 use Rattle.casefile.specs.Numbers.{numbers}
 use Rattle.casefile.proofs.file.CaseFile.field.Goals as goal

@@ -1,4 +1,4 @@
-use Rattle.std.proofs.Common.{sym, ◌∙◌, arith}
+use Rattle.std.proofs.Common.{sym, arith}
 use Rattle.casefile.proofs.NumberLaws.{get_d_numbers, get_d_numbers_beyond}
 use Rattle.casefile.proofs.file.CaseFile.number.Goals as goal
 

@@ -1,4 +1,4 @@
-use Rattle.std.proofs.Common.{length-append, length-take, rules}
+use Rattle.std.proofs.Common.{rules}
 use lib.ListN.{length-map}
 use Rattle.layers.proofs.BehindLaws.{length-behind}
 use Rattle.layers.proofs.question.QuestionBase.counts.Goals as goal

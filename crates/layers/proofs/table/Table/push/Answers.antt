@@ -1,4 +1,4 @@
-use Rattle.std.proofs.Common.{◌≡◌, ◌<◌, arith, rules}
+use Rattle.std.proofs.Common.{arith, rules}
 use Rattle.layers.proofs.TableLaws.{more-put}
 use Rattle.layers.proofs.table.Table.push.Goals as goal
 

@@ -8,8 +8,8 @@ use Rattle.sheet.proofs.SteppedLaws.{play_performs, stepped_as, stepped-played}
 use Rattle.table.specs.Rules.{rule_of}
 use Rattle.sheet.proofs.state.Sheet.play.Goals as goal
 
-pub slice-bounds-perform-end : goal.slice-bounds-perform-end
-slice-bounds-perform-end g c =
+pub slice_bounds-perform-end : goal.slice_bounds-perform-end
+slice_bounds-perform-end g c =
     let s = state_of c.args.self.now (ledgers_of c.args.ledgers.now) in
     let own = ready-fits (g.B.Base.meaning c.args.base.now) (length c.args.scratch.now) s (sym c.in_ok-check_ready.ensures) in
     omega (arith, own.1, c.args.self.now.few, c.from-individuals.ensures)
