@@ -7,8 +7,8 @@ use Rattle.kb.specs.Meanings.{Meaning}
 use Rattle.ledger.specs.Books.{Book, cut, filled, size}
 use Rattle.calculus.specs.declared.fault.StepFault.{StepFault}
 use Rattle.calculus.specs.declared.fault.StepFault.TheVariants.{Full}
-use Rattle.calculus.specs.declared.rows.ConceptRow.{ConceptRow}
-use Rattle.calculus.specs.declared.rows.PendingRow.{PendingRow}
+use Rattle.calculus.specs.declared.row_kinds.ConceptRow.{ConceptRow}
+use Rattle.calculus.specs.declared.row_kinds.PendingRow.{PendingRow}
 use Rattle.calculus.specs.declared.step.Step.{Step}
 use Rattle.calculus.specs.Branches.{Branch, held}
 use Rattle.calculus.specs.Playing.{Played, Written, accepted, close, cut_to, extend, individuals_after, last_of, note, noteable, play, write_missing}

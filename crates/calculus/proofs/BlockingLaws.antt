@@ -6,7 +6,7 @@ use Rattle.rows.specs.Rows.{row_at}
 use Rattle.kb.specs.declared.axioms.Assertion.TheVariants.{Is}
 use Rattle.kb.specs.declared.names.Concept.{Concept}
 use Rattle.kb.specs.Meanings.{Meaning}
-use Rattle.calculus.specs.declared.rows.ConceptRow.{ConceptRow}
+use Rattle.calculus.specs.declared.row_kinds.ConceptRow.{ConceptRow}
 use Rattle.calculus.specs.Blocking.{BlockerOf, BlockerStands}
 use Rattle.calculus.specs.Branches.{Branch, any, equal, held, concept_row_holds}
 use Rattle.calculus.specs.Review.{concept, individual, covers, new, blocks, blocked, blocker, some_under}

@@ -4,8 +4,8 @@ use Rattle.std.proofs.lemmas.Bool.{or_cases, or_left, or_right, eqb-true, eq-eqb
 use Rattle.rows.specs.Rows.{row_at}
 use Rattle.rows.proofs.RowLaws.{row_at-append-left, row_at-found}
 use Rattle.kb.specs.declared.names.Individual.{Individual}
-use Rattle.calculus.specs.declared.rows.PairRow.{PairRow}
-use Rattle.calculus.specs.declared.rows.PairRow.TheVariants.{Same as SameRow, Different as DifferentRow}
+use Rattle.calculus.specs.declared.row_kinds.PairRow.{PairRow}
+use Rattle.calculus.specs.declared.row_kinds.PairRow.TheVariants.{Same as SameRow, Different as DifferentRow}
 use Rattle.calculus.specs.Branches.{Equal, same, self, turned, chained, merged, join_heads, heads_from, head_of, equal}
 use Rattle.calculus.specs.Equality.{HeadsAreLeast}
 

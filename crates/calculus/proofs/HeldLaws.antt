@@ -7,9 +7,9 @@ use Rattle.kb.specs.declared.axioms.Assertion.TheVariants.{Is, Joins, Same, Diff
 use Rattle.kb.specs.declared.names.Concept.{Concept}
 use Rattle.kb.specs.declared.names.Individual.{Individual}
 use Rattle.kb.specs.Meanings.{Meaning}
-use Rattle.calculus.specs.declared.rows.ConceptRow.{ConceptRow}
-use Rattle.calculus.specs.declared.rows.PairRow.{PairRow}
-use Rattle.calculus.specs.declared.rows.PairRow.TheVariants.{Same as SameRow, Different as DifferentRow}
+use Rattle.calculus.specs.declared.row_kinds.ConceptRow.{ConceptRow}
+use Rattle.calculus.specs.declared.row_kinds.PairRow.{PairRow}
+use Rattle.calculus.specs.declared.row_kinds.PairRow.TheVariants.{Same as SameRow, Different as DifferentRow}
 use Rattle.calculus.specs.Branches.{Branch, Equal, any, concept_row_holds, equal, held, pair_row_holds, role_holds, role_row_holds}
 use Rattle.calculus.specs.Holding.{EitherOrder, Held}
 use Rattle.calculus.specs.HeldLaws.{Extends, HeldMeans, HeldStays}

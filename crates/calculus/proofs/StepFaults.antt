@@ -15,7 +15,7 @@ use Rattle.kb.specs.Names.{complement, entry_number}
 use Rattle.kb.specs.Numbers.{pair_list}
 use Rattle.calculus.specs.declared.fault.StepFault.{StepFault}
 use Rattle.calculus.specs.declared.fault.StepFault.TheVariants.{Changed, Closed, Row, Range, Kind, Premise, Full}
-use Rattle.calculus.specs.declared.rows.PendingRow.{PendingRow}
+use Rattle.calculus.specs.declared.row_kinds.PendingRow.{PendingRow}
 use Rattle.calculus.specs.declared.shape.Shape.{Shape}
 use Rattle.calculus.specs.declared.shape.Shape.TheVariants.{Plain, Both as BothShape, Some as SomeShape, NotBoth, NotSome}
 use Rattle.calculus.specs.declared.step.Step.{Step}

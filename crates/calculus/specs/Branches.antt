@@ -7,10 +7,10 @@ use Rattle.kb.specs.declared.names.Concept.{Concept}
 use Rattle.kb.specs.declared.names.Individual.{Individual}
 use Rattle.kb.specs.declared.names.Role.{Role}
 use Rattle.kb.specs.Meanings.{Meaning}
-use Rattle.calculus.specs.declared.rows.ConceptRow.{ConceptRow}
-use Rattle.calculus.specs.declared.rows.PairRow.{PairRow}
-use Rattle.calculus.specs.declared.rows.PairRow.TheVariants.{Same as SameRow, Different as DifferentRow}
-use Rattle.calculus.specs.declared.rows.RoleRow.{RoleRow}
+use Rattle.calculus.specs.declared.row_kinds.ConceptRow.{ConceptRow}
+use Rattle.calculus.specs.declared.row_kinds.PairRow.{PairRow}
+use Rattle.calculus.specs.declared.row_kinds.PairRow.TheVariants.{Same as SameRow, Different as DifferentRow}
+use Rattle.calculus.specs.declared.row_kinds.RoleRow.{RoleRow}
 
 -- The rows of a branch, and how many individuals it has: those of the base, then new ones.
 pub record Branch : Type 0 where

@@ -1,7 +1,7 @@
 -- The computed heads and the computed equality are those of the least equivalence.
 use Rattle.std.specs.Prelude.{◌≡◌, ◌≤◌, true, ◌↔◌, List}
 use Rattle.kb.specs.declared.names.Individual.{Individual}
-use Rattle.calculus.specs.declared.rows.PairRow.{PairRow}
+use Rattle.calculus.specs.declared.row_kinds.PairRow.{PairRow}
 use Rattle.calculus.specs.Branches.{Equal, equal, head_of}
 
 -- An individual is equal to its head; no individual equal to it is smaller than the head; and two individuals are found

@@ -17,7 +17,7 @@ use Rattle.calculus.specs.declared.review.Finding.{Finding}
 use Rattle.calculus.specs.declared.review.Finding.TheVariants.{Closed, Open}
 use Rattle.calculus.specs.declared.review.ReviewFault.{ReviewFault}
 use Rattle.calculus.specs.declared.review.ReviewFault.TheVariants.{Condition}
-use Rattle.calculus.specs.declared.rows.PairRow.TheVariants.{Same as SameRow}
+use Rattle.calculus.specs.declared.row_kinds.PairRow.TheVariants.{Same as SameRow}
 use Rattle.calculus.specs.declared.step.Step.{Step}
 use Rattle.calculus.specs.declared.step.Step.TheVariants.{Take, Both, Some as SomeStep, Include, Key, Cut, Clash, Apart}
 use Rattle.calculus.specs.Faults.{step_fault_numbers}

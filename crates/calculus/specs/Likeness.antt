@@ -1,11 +1,11 @@
 -- Which rows of a ledger count as alike, and that each is alike itself.
 use Rattle.std.specs.Prelude.{◌≡◌, Bool, true, false, ◌&&◌, ◌==◌, refl}
 use Rattle.std.proofs.lemmas.Bool.{and_from, eq-eqb}
-use Rattle.calculus.specs.declared.rows.ConceptRow.{ConceptRow}
-use Rattle.calculus.specs.declared.rows.PairRow.{PairRow}
-use Rattle.calculus.specs.declared.rows.PairRow.TheVariants.{Same, Different}
-use Rattle.calculus.specs.declared.rows.PendingRow.{PendingRow}
-use Rattle.calculus.specs.declared.rows.RoleRow.{RoleRow}
+use Rattle.calculus.specs.declared.row_kinds.ConceptRow.{ConceptRow}
+use Rattle.calculus.specs.declared.row_kinds.PairRow.{PairRow}
+use Rattle.calculus.specs.declared.row_kinds.PairRow.TheVariants.{Same, Different}
+use Rattle.calculus.specs.declared.row_kinds.PendingRow.{PendingRow}
+use Rattle.calculus.specs.declared.row_kinds.RoleRow.{RoleRow}
 
 -- Concept rows are alike by their concept.
 abbrev pub concept_rows_alike : ConceptRow → ConceptRow → Bool

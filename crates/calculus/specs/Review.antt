@@ -16,7 +16,7 @@ use Rattle.calculus.specs.declared.review.Finding.{Finding}
 use Rattle.calculus.specs.declared.review.Finding.TheVariants.{Closed, Open}
 use Rattle.calculus.specs.declared.review.ReviewFault.{ReviewFault}
 use Rattle.calculus.specs.declared.review.ReviewFault.TheVariants.{Changed, Full, Condition}
-use Rattle.calculus.specs.declared.rows.ConceptRow.{ConceptRow}
+use Rattle.calculus.specs.declared.row_kinds.ConceptRow.{ConceptRow}
 use Rattle.calculus.specs.Branches.{Branch, equal, held}
 use Rattle.calculus.specs.States.{State, branch, every, fits}
 

@@ -5,11 +5,11 @@ use Rattle.kb.specs.Meanings.{Meaning, counts_of}
 use Rattle.kb.specs.Range.{concept_in_range, role_in_range}
 use Rattle.ledger.specs.Books.{Book, size}
 use Rattle.calculus.specs.declared.lengths.Lengths.{Lengths}
-use Rattle.calculus.specs.declared.rows.ConceptRow.{ConceptRow}
-use Rattle.calculus.specs.declared.rows.PairRow.{PairRow}
-use Rattle.calculus.specs.declared.rows.PairRow.TheVariants.{Same as SameRow, Different as DifferentRow}
-use Rattle.calculus.specs.declared.rows.PendingRow.{PendingRow}
-use Rattle.calculus.specs.declared.rows.RoleRow.{RoleRow}
+use Rattle.calculus.specs.declared.row_kinds.ConceptRow.{ConceptRow}
+use Rattle.calculus.specs.declared.row_kinds.PairRow.{PairRow}
+use Rattle.calculus.specs.declared.row_kinds.PairRow.TheVariants.{Same as SameRow, Different as DifferentRow}
+use Rattle.calculus.specs.declared.row_kinds.PendingRow.{PendingRow}
+use Rattle.calculus.specs.declared.row_kinds.RoleRow.{RoleRow}
 use Rattle.calculus.specs.Branches.{Branch}
 use Rattle.calculus.specs.Table.{below}
 

@@ -17,7 +17,7 @@ use Rattle.kb.specs.Names.{complement, entry_number}
 use Rattle.kb.specs.Numbers.{pair_list}
 use Rattle.calculus.specs.declared.fault.StepFault.{StepFault}
 use Rattle.calculus.specs.declared.fault.StepFault.TheVariants.{Row, Range, Kind}
-use Rattle.calculus.specs.declared.rows.ConceptRow.{ConceptRow}
+use Rattle.calculus.specs.declared.row_kinds.ConceptRow.{ConceptRow}
 use Rattle.calculus.specs.declared.shape.Shape.{Shape}
 use Rattle.calculus.specs.declared.shape.Shape.TheVariants.{Plain, Both as BothShape, Some as SomeShape, NotBoth, NotSome}
 use Rattle.calculus.specs.declared.step.Step.{Step}

@@ -7,6 +7,6 @@ pub mod laws;
 pub mod lengths;
 pub mod likeness;
 pub mod review;
-pub mod rows;
+pub mod row_kinds;
 pub mod shape;
 pub mod step;

@@ -2,7 +2,7 @@
 // pending sides by all they hold.
 ghost use Rattle.calculus.specs.Likeness.{concept_rows_alike, concept_rows_reflexive, pair_rows_alike, pair_rows_reflexive, pending_rows_alike, pending_rows_reflexive, role_rows_alike, role_rows_reflexive};
 
-use crate::rows::{ConceptRow, PairRow, PendingRow, RoleRow};
+use crate::row_kinds::{ConceptRow, PairRow, PendingRow, RoleRow};
 use ledger::Alike;
 
 impl Alike for ConceptRow {

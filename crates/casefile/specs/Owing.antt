@@ -2,7 +2,7 @@
 -- proof, so it stands among the definitions.
 use Rattle.std.specs.Prelude.{◌≡◌, ℕ, zero, suc, Bool, true, false, cond, List, [], ◌∷◌, length, drop, ◌==◌, slice_index, refl}
 use Rattle.std.proofs.Common.{ap, arith}
-use Rattle.std.specs.List.{AllByRecursion as All}
+use Rattle.std.specs.List.{AllByRecursion}
 use Rattle.std.proofs.ByRecursion.{All-drop}
 use Rattle.std.proofs.lemmas.Bool.{cond_both}
 use Rattle.kb.specs.Meanings.{Tellable, TellableList, Owed}
@@ -17,46 +17,46 @@ pub length-rows_from : {X : Type 0} (width : ℕ) (read : List ℕ → X) (k : �
 length-rows_from width read zero ns = refl
 length-rows_from width read (suc k) ns = ap suc (length-rows_from width read k (drop width ns))
 
-numbers-small : (bytes : List ℕ) → All Tellable (numbers bytes)
+numbers-small : (bytes : List ℕ) → AllByRecursion Tellable (numbers bytes)
 numbers-small [] = tt
 numbers-small (b ∷ []) = tt
 numbers-small (a ∷ b ∷ bytes) = (omega arith, numbers-small bytes)
 
-small_at : (ns : List ℕ) (i : ℕ) → All Tellable ns → Tellable (slice_index ns i)
+small_at : (ns : List ℕ) (i : ℕ) → AllByRecursion Tellable ns → Tellable (slice_index ns i)
 small_at [] i a = omega arith
 small_at (n ∷ ns) zero a = a.0
 small_at (n ∷ ns) (suc i) a = small_at ns i a.1
 
 -- a test that chooses between two rows chooses between their numbers
-small-cond : {X : Type 0} (numbers_of : X → List ℕ) (b : Bool) (x y : X) → All Tellable (numbers_of x) → All Tellable (numbers_of y) → All Tellable (numbers_of (cond b x y))
+small-cond : {X : Type 0} (numbers_of : X → List ℕ) (b : Bool) (x y : X) → AllByRecursion Tellable (numbers_of x) → AllByRecursion Tellable (numbers_of y) → AllByRecursion Tellable (numbers_of (cond b x y))
 small-cond numbers_of true x y p q = p
 small-cond numbers_of false x y p q = q
 
-module _ (ns : List ℕ) (a : All Tellable ns) where
+module _ (ns : List ℕ) (a : AllByRecursion Tellable ns) where
   z : Tellable 0
   z = omega arith
 
   s : (i : ℕ) → Tellable (slice_index ns i)
   s i = small_at ns i a
 
-  entry_small : All Tellable (entry_numbers (read_entry ns))
+  entry_small : AllByRecursion Tellable (entry_numbers (read_entry ns))
   entry_small =
       small-cond entry_numbers (slice_index ns 0 == 0) _ _ (z, (z, (z, tt)))
       (small-cond entry_numbers (slice_index ns 0 == 1) _ _ (omega arith, (z, (z, tt)))
       (small-cond entry_numbers (slice_index ns 0 == 2) _ _ (omega arith, (s 1, (s 2, tt)))
       (small-cond entry_numbers (slice_index ns 0 == 3) _ _ (omega arith, (s 1, (s 2, tt))) (s 0, (z, (z, tt))))))
 
-  assertion_small : All Tellable (assertion_numbers (read_assertion ns))
+  assertion_small : AllByRecursion Tellable (assertion_numbers (read_assertion ns))
   assertion_small =
       small-cond assertion_numbers (slice_index ns 0 == 0) _ _ (z, (s 1, (s 2, (z, tt))))
       (small-cond assertion_numbers (slice_index ns 0 == 1) _ _ (omega arith, (s 1, (s 2, (s 3, tt))))
       (small-cond assertion_numbers (slice_index ns 0 == 2) _ _ (omega arith, (s 1, (s 2, (z, tt))))
       (small-cond assertion_numbers (slice_index ns 0 == 3) _ _ (omega arith, (s 1, (s 2, (z, tt)))) (s 0, (z, (z, (z, tt)))))))
 
-  inclusion_small : All Tellable (inclusion_numbers (read_inclusion ns))
+  inclusion_small : AllByRecursion Tellable (inclusion_numbers (read_inclusion ns))
   inclusion_small = (s 0, (s 1, tt))
 
-  key_small : All Tellable (key_numbers (read_key ns))
+  key_small : AllByRecursion Tellable (key_numbers (read_key ns))
   key_small =
       small-cond key_numbers (slice_index ns 2 == 1) _ _ (s 0, (s 1, (omega arith, (s 3, (s 4, (z, (z, (z, (z, (z, (z, tt)))))))))))
       (small-cond key_numbers (slice_index ns 2 == 2) _ _ (s 0, (s 1, (omega arith, (s 3, (s 4, (s 5, (s 6, (z, (z, (z, (z, tt)))))))))))
@@ -65,11 +65,11 @@ module _ (ns : List ℕ) (a : All Tellable ns) where
       (z, (z, (s 2, (z, (z, (z, (z, (z, (z, (z, (z, tt))))))))))))))
 
 -- rows read from small numbers are small, and there are no more than can be told
-rows_from_tellable : {X : Type 0} (numbers_of : X → List ℕ) (width : ℕ) (read : List ℕ → X) → ((ns : List ℕ) → All Tellable ns → All Tellable (numbers_of (read ns))) → (k : ℕ) → Tellable k → (ns : List ℕ) → All Tellable ns → TellableList numbers_of (rows_from width read k ns)
+rows_from_tellable : {X : Type 0} (numbers_of : X → List ℕ) (width : ℕ) (read : List ℕ → X) → ((ns : List ℕ) → AllByRecursion Tellable ns → AllByRecursion Tellable (numbers_of (read ns))) → (k : ℕ) → Tellable k → (ns : List ℕ) → AllByRecursion Tellable ns → TellableList numbers_of (rows_from width read k ns)
 rows_from_tellable numbers_of width read each k h ns a =
     record { short = omega (arith, length-rows_from width read k ns); small = rows k ns a }
   where
-    rows : (k : ℕ) (ns : List ℕ) → All Tellable ns → All (λ x. All Tellable (numbers_of x)) (rows_from width read k ns)
+    rows : (k : ℕ) (ns : List ℕ) → AllByRecursion Tellable ns → AllByRecursion (λ x. AllByRecursion Tellable (numbers_of x)) (rows_from width read k ns)
     rows zero ns a = tt
     rows (suc k) ns a = (each ns a, rows k (drop width ns) (All-drop Tellable width ns a))
 
@@ -104,5 +104,5 @@ file_owed bytes =
       keys = rows_from_tellable key_numbers 11 read_key key_small _ n.keys _ (from (keys_at (file_counts bytes)));
     }
   where
-    from : (k : ℕ) → All Tellable (drop k (numbers bytes))
+    from : (k : ℕ) → AllByRecursion Tellable (drop k (numbers bytes))
     from k = All-drop Tellable k (numbers bytes) (numbers-small bytes)

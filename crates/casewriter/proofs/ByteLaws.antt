@@ -1,6 +1,6 @@
 -- Numbers as bytes, and back.
 use Rattle.std.proofs.Common.{◌≡◌, ℕ, ◌+◌, ◌*◌, ◌/◌, ◌%◌, ◌<◌, min, List, [], ◌∷◌, ◌++◌, length, get_or, take, sym, refl, ap, ◌∙◌, append_assoc, append-nil, arith, length-append}
-use Rattle.std.specs.List.{flat_map, AllByRecursion as All}
+use Rattle.std.specs.List.{flat_map, AllByRecursion}
 use Rattle.std.proofs.ByRecursion.{All-append}
 use Rattle.std.proofs.lemmas.List.{take_more}
 use Rattle.kb.specs.Meanings.{Tellable}
@@ -16,7 +16,7 @@ module _ {X : Type 0} (f : X → List ℕ) where
   length-joined width same [] = omega arith
   length-joined width same (x ∷ xs) = length-append (f x) (flat_map f xs) ∙ omega (arith, same x, length-joined width same xs)
 
-  pub all_joined : (P : ℕ → Type 0) (xs : List X) → All (λ x. All P (f x)) xs → All P (flat_map f xs)
+  pub all_joined : (P : ℕ → Type 0) (xs : List X) → AllByRecursion (λ x. AllByRecursion P (f x)) xs → AllByRecursion P (flat_map f xs)
   all_joined P [] a = tt
   all_joined P (x ∷ xs) a = All-append P (f x) (flat_map f xs) a.0 (all_joined P xs a.1)
 
@@ -30,7 +30,7 @@ pub length-bytes : (ns : List ℕ) → length (bytes_of ns) ≡ 2 * length ns
 length-bytes ns = length-joined two_bytes 2 (λ _. refl) ns
 
 -- numbers that can be told are read back from their bytes
-pub numbers-bytes : (ns : List ℕ) → All Tellable ns → numbers (bytes_of ns) ≡ ns
+pub numbers-bytes : (ns : List ℕ) → AllByRecursion Tellable ns → numbers (bytes_of ns) ≡ ns
 numbers-bytes [] a = refl
 numbers-bytes (n ∷ ns) a =
     let e : min (256 * (n / 256) + n % 256) 65535 ≡ n = omega (arith, a.0) in

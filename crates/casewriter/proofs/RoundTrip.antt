@@ -1,6 +1,6 @@
 -- A case file that was written is read as the base that it was written from.
 use Rattle.std.proofs.Common.{◌≡◌, ℕ, suc, ◌*◌, ◌<◌, ◌≤◌, Bool, true, List, [], ◌∷◌, ◌++◌, length, drop, sym, refl, ap, ◌∙◌, append_assoc, append-nil, arith, length-append}
-use Rattle.std.specs.List.{flat_map, AllByRecursion as All}
+use Rattle.std.specs.List.{flat_map, AllByRecursion}
 use Rattle.std.proofs.ByRecursion.{All-append}
 use Rattle.std.proofs.lemmas.List.{drop_at}
 use Rattle.std.proofs.lemmas.Bool.{and_from, le-leb, eq-eqb, false≢true}
@@ -121,7 +121,7 @@ module _ (m : Meaning) where
       λ j. record { entries = e j; roles = m.roles; individuals = m.individuals; assertions = s j; inclusions = i j; keys = k j }
 
   -- every number of a file can be told
-  case_tellable : Owed m → All Tellable (case_numbers m)
+  case_tellable : Owed m → AllByRecursion Tellable (case_numbers m)
   case_tellable o =
       All-append Tellable before_keys (section_numbers m Keys)
       (All-append Tellable before_inclusions (section_numbers m Inclusions)

@@ -7,7 +7,7 @@ use Rattle.kb.specs.declared.lexicon.Entry.TheVariants.{Top, Name, Both, Some as
 use Rattle.kb.specs.declared.names.Concept.{Concept}
 use Rattle.kb.specs.declared.names.Individual.{Individual}
 use Rattle.kb.specs.Meanings.{Meaning}
-use Rattle.calculus.specs.declared.rows.ConceptRow.{ConceptRow}
+use Rattle.calculus.specs.declared.row_kinds.ConceptRow.{ConceptRow}
 use Rattle.calculus.specs.Branches.{Branch, any, concept_row_holds, equal, held}
 use Rattle.calculus.specs.Review.{blocked, concept, individual}
 use Rattle.failures.specs.declared.failure.EntryCondition.{EntryCondition}

@@ -1,7 +1,7 @@
 -- Which concepts the rows of a branch have.
 use Rattle.std.specs.Prelude.{ℕ, Bool, cond, ◌||◌, Some, None, Option, ◌==◌}
 use Rattle.kb.specs.declared.names.Concept.{Concept}
-use Rattle.calculus.specs.declared.rows.ConceptRow.{ConceptRow}
+use Rattle.calculus.specs.declared.row_kinds.ConceptRow.{ConceptRow}
 use Rattle.calculus.specs.Branches.{Branch, any}
 use Rattle.calculus.specs.Review.{concept}
 

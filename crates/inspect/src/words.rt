@@ -26,7 +26,11 @@ pub(crate) fn write_entry(out: &mut String, k: u16, entry: Entry) -> Result<(), 
     }
 }
 
-pub(crate) fn write_assertion(out: &mut String, k: u16, assertion: Assertion) -> Result<(), AllocError>
+pub(crate) fn write_assertion(
+    out: &mut String,
+    k: u16,
+    assertion: Assertion,
+) -> Result<(), AllocError>
     ensures { Wrote result (string_bytes out.old) (assertion_line k assertion) (string_bytes out.new) }
 {
     match assertion {
@@ -56,7 +60,11 @@ pub(crate) fn write_assertion(out: &mut String, k: u16, assertion: Assertion) ->
     }
 }
 
-pub(crate) fn write_inclusion(out: &mut String, k: u16, inclusion: Inclusion) -> Result<(), AllocError>
+pub(crate) fn write_inclusion(
+    out: &mut String,
+    k: u16,
+    inclusion: Inclusion,
+) -> Result<(), AllocError>
     ensures { Wrote result (string_bytes out.old) (inclusion_line k inclusion) (string_bytes out.new) }
 {
     let Concept(c) = inclusion.sub;

@@ -1,7 +1,7 @@
 -- What a join lists, from what the two bases list.
 use Rattle.std.specs.Prelude.{ℕ, ◌+◌, List, [], ◌∷◌, map}
 use Rattle.std.proofs.Common.{arith}
-use Rattle.std.specs.List.{AllByRecursion as All}
+use Rattle.std.specs.List.{AllByRecursion}
 use Rattle.kb.specs.declared.axioms.Assertion.{Assertion}
 use Rattle.kb.specs.declared.axioms.Assertion.TheVariants.{Is, Joins, Same, Different, Unlisted}
 use Rattle.kb.specs.declared.names.Individual.{Individual}
@@ -35,14 +35,14 @@ join_meaning left right =
 
 -- What is owed of a join follows from what is owed of the two bases. The implementation names this proof.
 -- An assertion that can be told can be told raised.
-raised_tellable : (n : ℕ) (a : Assertion) → All Tellable (assertion_numbers a) → All Tellable (assertion_numbers (raised n a))
+raised_tellable : (n : ℕ) (a : Assertion) → AllByRecursion Tellable (assertion_numbers a) → AllByRecursion Tellable (assertion_numbers (raised n a))
 raised_tellable n (Is c x) (k, (t, _)) = (k, (t, (omega arith, (omega arith, tt))))
 raised_tellable n (Joins r x y) (k, (t, _)) = (k, (t, (omega arith, (omega arith, tt))))
 raised_tellable n (Same x y) (k, _) = (k, (omega arith, (omega arith, (omega arith, tt))))
 raised_tellable n (Different x y) (k, _) = (k, (omega arith, (omega arith, (omega arith, tt))))
 raised_tellable n (Unlisted kind) h = h
 
-each-raised : (n : ℕ) (as' : List Assertion) → All (λ a. All Tellable (assertion_numbers a)) as' → All (λ a. All Tellable (assertion_numbers a)) (map (raised n) as')
+each-raised : (n : ℕ) (as' : List Assertion) → AllByRecursion (λ a. AllByRecursion Tellable (assertion_numbers a)) as' → AllByRecursion (λ a. AllByRecursion Tellable (assertion_numbers a)) (map (raised n) as')
 each-raised n [] h = tt
 each-raised n (a ∷ as') (h, hs) = (raised_tellable n a h, each-raised n as' hs)
 

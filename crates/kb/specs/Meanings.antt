@@ -1,6 +1,6 @@
 -- What a base lists, and what an implementation owes of it.
 use Rattle.std.specs.Prelude.{ℕ, ◌≤◌, List, [], length}
-use Rattle.std.specs.List.{AllByRecursion as All}
+use Rattle.std.specs.List.{AllByRecursion}
 use Rattle.kb.specs.declared.axioms.Assertion.{Assertion}
 use Rattle.kb.specs.declared.axioms.Inclusion.{Inclusion}
 use Rattle.kb.specs.declared.axioms.Key.{Key}
@@ -40,7 +40,7 @@ Tellable n = n ≤ 65535
 -- A list can be told if it has at most 65,535 rows and each row's numbers can.
 pub record TellableList {X : Type 0} (numbers : X → List ℕ) (xs : List X) : Type 0 where
   pub short : length xs ≤ 65535
-  pub small : All (λ x. All Tellable (numbers x)) xs
+  pub small : AllByRecursion (λ x. AllByRecursion Tellable (numbers x)) xs
 
 -- What an implementation owes of its meaning: every number and every list of it can be told.
 pub record Owed (m : Meaning) : Type 0 where

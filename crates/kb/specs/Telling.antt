@@ -1,7 +1,7 @@
 -- What a base can tell: a number above 65,535 is told as 65,535, and a longer list is cut there.
 use Rattle.std.specs.Prelude.{ℕ, min, List, [], ◌∷◌, ◌++◌, map, take}
 use Rattle.std.proofs.Common.{arith, length-take}
-use Rattle.std.specs.List.{AllByRecursion as All}
+use Rattle.std.specs.List.{AllByRecursion}
 use Rattle.std.proofs.ByRecursion.{All-append, All-take}
 use Rattle.kb.specs.declared.axioms.Assertion.{Assertion}
 use Rattle.kb.specs.declared.axioms.Assertion.TheVariants.{Is, Joins, Same, Different, Unlisted as UnlistedAssertion}
@@ -74,24 +74,24 @@ told n = omega arith
 zero : Tellable 0
 zero = omega arith
 
-pub entry_tellable : (e : Entry) → All Tellable (entry_numbers (tell_entry e))
+pub entry_tellable : (e : Entry) → AllByRecursion Tellable (entry_numbers (tell_entry e))
 entry_tellable Top = (zero, (zero, (zero, tt)))
 entry_tellable Name = (omega arith, (zero, (zero, tt)))
 entry_tellable (Both c d) = (omega arith, (told c.0, (told d.0, tt)))
 entry_tellable (Some r c) = (omega arith, (told r.0, (told c.0, tt)))
 entry_tellable (Unlisted kind) = (told kind, (zero, (zero, tt)))
 
-pub assertion_tellable : (a : Assertion) → All Tellable (assertion_numbers (tell_assertion a))
+pub assertion_tellable : (a : Assertion) → AllByRecursion Tellable (assertion_numbers (tell_assertion a))
 assertion_tellable (Is c x) = (zero, (told c.0, (told x.0, (zero, tt))))
 assertion_tellable (Joins r x y) = (omega arith, (told r.0, (told x.0, (told y.0, tt))))
 assertion_tellable (Same x y) = (omega arith, (told x.0, (told y.0, (zero, tt))))
 assertion_tellable (Different x y) = (omega arith, (told x.0, (told y.0, (zero, tt))))
 assertion_tellable (UnlistedAssertion kind) = (told kind, (zero, (zero, (zero, tt))))
 
-pub inclusion_tellable : (i : Inclusion) → All Tellable (inclusion_numbers (tell_inclusion i))
+pub inclusion_tellable : (i : Inclusion) → AllByRecursion Tellable (inclusion_numbers (tell_inclusion i))
 inclusion_tellable i = (told i.sub.0, (told i.sup.0, tt))
 
-pub key_tellable : (k : Key) → All Tellable (key_numbers (tell_key k))
+pub key_tellable : (k : Key) → AllByRecursion Tellable (key_numbers (tell_key k))
 key_tellable (Link c d (One p)) =
     (told c.0, (told d.0, (omega arith, (told p.left.0, (told p.right.0, (zero, (zero, (zero, (zero, (zero, (zero, tt)))))))))))
 key_tellable (Link c d (Two p q)) =
@@ -104,15 +104,15 @@ key_tellable (UnlistedKey count) = (zero, (zero, (told count, (zero, (zero, (zer
 
 module _ {X : Type 0} (numbers : X → List ℕ) where
   -- a cut list of small rows can be told
-  pub cut_tellable : (xs : List X) → All (λ x. All Tellable (numbers x)) xs → TellableList numbers (take 65535 xs)
+  pub cut_tellable : (xs : List X) → AllByRecursion (λ x. AllByRecursion Tellable (numbers x)) xs → TellableList numbers (take 65535 xs)
   cut_tellable xs a =
-      record { short = simp length-take (omega arith); small = All-take (λ x. All Tellable (numbers x)) 65535 xs a }
+      record { short = simp length-take (omega arith); small = All-take (λ x. AllByRecursion Tellable (numbers x)) 65535 xs a }
 
   -- so can rows behind a list that can be told
-  pub behind_tellable : (xs ys : List X) → TellableList numbers xs → All (λ x. All Tellable (numbers x)) ys → TellableList numbers (behind xs ys)
-  behind_tellable xs ys t a = cut_tellable (xs ++ ys) (All-append (λ x. All Tellable (numbers x)) xs ys t.small a)
+  pub behind_tellable : (xs ys : List X) → TellableList numbers xs → AllByRecursion (λ x. AllByRecursion Tellable (numbers x)) ys → TellableList numbers (behind xs ys)
+  behind_tellable xs ys t a = cut_tellable (xs ++ ys) (All-append (λ x. AllByRecursion Tellable (numbers x)) xs ys t.small a)
 
   -- each row of a list is told
-  pub each-told : (f : X → X) → ((x : X) → All Tellable (numbers (f x))) → (xs : List X) → All (λ x. All Tellable (numbers x)) (map f xs)
+  pub each-told : (f : X → X) → ((x : X) → AllByRecursion Tellable (numbers (f x))) → (xs : List X) → AllByRecursion (λ x. AllByRecursion Tellable (numbers x)) (map f xs)
   each-told f told [] = tt
   each-told f told (x ∷ xs) = (told x, each-told f told xs)

@@ -2,7 +2,7 @@
 use Rattle.std.specs.Prelude.{ℕ, zero, suc, ◌≤◌, List, [], ◌∷◌, length, replicate}
 use Rattle.std.proofs.Common.{arith}
 use Rattle.std.proofs.lemmas.List.{length-replicate}
-use Rattle.std.specs.List.{AllByRecursion as All}
+use Rattle.std.specs.List.{AllByRecursion}
 use Rattle.kb.specs.declared.axioms.Assertion.{Assertion}
 use Rattle.kb.specs.declared.axioms.Assertion.TheVariants.{Same}
 use Rattle.kb.specs.declared.axioms.Inclusion.{Inclusion}
@@ -26,8 +26,8 @@ many_meaning individuals rows =
       keys = replicate (tell rows) (Unlisted 9);
     }
 
-module _ {X : Type 0} (numbers : X → List ℕ) (x : X) (h : All Tellable (numbers x)) where
-  each-equal : (n : ℕ) → All (λ y. All Tellable (numbers y)) (replicate n x)
+module _ {X : Type 0} (numbers : X → List ℕ) (x : X) (h : AllByRecursion Tellable (numbers x)) where
+  each-equal : (n : ℕ) → AllByRecursion (λ y. AllByRecursion Tellable (numbers y)) (replicate n x)
   each-equal zero = tt
   each-equal (suc n) = (h, each-equal n)
 

@@ -8,7 +8,7 @@ ghost use Rattle.std.specs.Prelude.{◌<◌, length};
 mod cases;
 mod records;
 
-use calculus::rows::{ConceptRow, RoleRow};
+use calculus::row_kinds::{ConceptRow, RoleRow};
 use cases::{CASES, Case};
 use ledger::{Alike, Ledger};
 use records::Numbered;

@@ -1,5 +1,5 @@
 // Two kinds of row of a sheet, made from numbers: concept rows, alike by their concept, and role rows, alike by all they hold.
-use calculus::rows::{ConceptRow, RoleRow};
+use calculus::row_kinds::{ConceptRow, RoleRow};
 use kb::names::{Concept, Individual, Role};
 
 /// A row that is made from a number and tells it.

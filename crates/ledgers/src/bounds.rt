@@ -6,7 +6,7 @@ ghost use Rattle.std.specs.Prelude.{◌≡◌};
 
 use crate::Ledgers;
 use calculus::lengths::Lengths;
-use calculus::rows::{ConceptRow, PairRow, PendingRow, RoleRow};
+use calculus::row_kinds::{ConceptRow, PairRow, PendingRow, RoleRow};
 use kb::counts::Counts;
 use kb::names::Individual;
 use scan::{Test, every_passes};

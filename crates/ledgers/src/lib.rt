@@ -9,7 +9,7 @@ ghost use Rattle.ledgers.specs.Contents.{ledgers_of};
 ghost use Rattle.std.specs.Prelude.{◌≡◌};
 
 use calculus::lengths::Lengths;
-use calculus::rows::{ConceptRow, PairRow, PendingRow, RoleRow};
+use calculus::row_kinds::{ConceptRow, PairRow, PendingRow, RoleRow};
 use kb::axioms::Assertion;
 use ledger::Ledger;
 

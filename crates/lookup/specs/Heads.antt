@@ -1,8 +1,8 @@
 -- Heads as a list of numbers, one for each individual.
 use Rattle.std.specs.Prelude.{ℕ, Bool, ◌&&◌, List, map, slice_index_or}
 use Rattle.kb.specs.declared.names.Individual.{Individual}
-use Rattle.calculus.specs.declared.rows.PairRow.{PairRow}
-use Rattle.calculus.specs.declared.rows.PairRow.TheVariants.{Same as SameRow, Different as DifferentRow}
+use Rattle.calculus.specs.declared.row_kinds.PairRow.{PairRow}
+use Rattle.calculus.specs.declared.row_kinds.PairRow.TheVariants.{Same as SameRow, Different as DifferentRow}
 use Rattle.calculus.specs.Branches.{merged}
 use Rattle.calculus.specs.Table.{below}
 

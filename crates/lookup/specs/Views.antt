@@ -1,8 +1,8 @@
 -- The branch that a view shows.
 use Rattle.std.specs.Prelude.{ℕ, cond, ◌&&◌, List, [], length, nat_le}
-use Rattle.calculus.specs.declared.rows.ConceptRow.{ConceptRow}
-use Rattle.calculus.specs.declared.rows.PairRow.{PairRow}
-use Rattle.calculus.specs.declared.rows.RoleRow.{RoleRow}
+use Rattle.calculus.specs.declared.row_kinds.ConceptRow.{ConceptRow}
+use Rattle.calculus.specs.declared.row_kinds.PairRow.{PairRow}
+use Rattle.calculus.specs.declared.row_kinds.RoleRow.{RoleRow}
 use Rattle.calculus.specs.Branches.{Branch}
 use Rattle.calculus.specs.States.{every}
 use Rattle.lookup.specs.Heads.{names_below}

@@ -4,7 +4,7 @@ ghost use Rattle.calculus.specs.States.{every};
 ghost use Rattle.lookup.specs.Heads.{head_in, joined, joined_by, names_below};
 ghost use Rattle.std.specs.Prelude.{◌≡◌, ℕ, ◌≤◌, true, length};
 
-use calculus::rows::PairRow;
+use calculus::row_kinds::PairRow;
 use kb::names::Individual;
 use scan::Test;
 

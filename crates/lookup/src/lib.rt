@@ -9,7 +9,7 @@ ghost use Rattle.lookup.specs.Heads.{names_below};
 ghost use Rattle.lookup.specs.Views.{branch_in, branch_over};
 ghost use Rattle.std.specs.Prelude.{◌≡◌, ◌≤◌, true, length};
 
-use calculus::rows::{ConceptRow, PairRow, RoleRow};
+use calculus::row_kinds::{ConceptRow, PairRow, RoleRow};
 use kb::axioms::Assertion;
 use kb::base::Base;
 use kb::names::{Concept, Individual, Role};

@@ -5,7 +5,7 @@ ghost use Rattle.lookup.specs.Views.{branch_in};
 ghost use Rattle.std.specs.Prelude.{◌≡◌};
 
 use crate::view::View;
-use calculus::rows::{PairRow, RoleRow};
+use calculus::row_kinds::{PairRow, RoleRow};
 use kb::axioms::Assertion;
 use kb::base::Base;
 use kb::names::{Individual, Role};

@@ -2,7 +2,7 @@
 ghost use Rattle.std.specs.Prelude.{◌≡◌, ℕ, ◌≤◌, length, slice_index_or};
 ghost use Rattle.calculus.specs.Branches.{head_of};
 
-use calculus::rows::{ConceptRow, PairRow, RoleRow};
+use calculus::row_kinds::{ConceptRow, PairRow, RoleRow};
 
 /// The rows of a branch, and the head of each of its individuals.
 #[derive(Clone, Copy)]

@@ -37,7 +37,7 @@ fn run(rt: &HostRuntime) -> anyhow::Result<()> {
     let first = words.next();
     let more = words.next().is_some();
     match first {
-        Some(word) if word == "inspect" && !more => inspect_case(rt),
+        Some(word) if word.as_str() == "inspect" && !more => inspect_case(rt),
         _ => {
             rt.println(WORDS)?;
             Ok(())

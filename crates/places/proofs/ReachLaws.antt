@@ -6,8 +6,8 @@ use Rattle.kb.specs.declared.axioms.Assertion.TheVariants.{Is, Joins}
 use Rattle.kb.specs.declared.names.Individual.{Individual}
 use Rattle.kb.specs.declared.names.Role.{Role}
 use Rattle.kb.specs.Meanings.{Meaning}
-use Rattle.calculus.specs.declared.rows.ConceptRow.{ConceptRow}
-use Rattle.calculus.specs.declared.rows.RoleRow.{RoleRow}
+use Rattle.calculus.specs.declared.row_kinds.ConceptRow.{ConceptRow}
+use Rattle.calculus.specs.declared.row_kinds.RoleRow.{RoleRow}
 use Rattle.calculus.specs.Branches.{Branch, any, equal, head_of, held, role_holds, role_row_holds, self}
 use Rattle.calculus.specs.Review.{individual, some_under}
 use Rattle.calculus.specs.Table.{below}

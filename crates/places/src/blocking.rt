@@ -5,7 +5,7 @@ ghost use Rattle.failures.specs.Failures.{unless_blocked};
 ghost use Rattle.lookup.specs.Views.{branch_in};
 ghost use Rattle.std.specs.Prelude.{◌≡◌};
 
-use calculus::rows::ConceptRow;
+use calculus::row_kinds::ConceptRow;
 use failures::failure::Failure;
 use kb::axioms::Assertion;
 use kb::base::Base;

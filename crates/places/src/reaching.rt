@@ -4,7 +4,7 @@ ghost use Rattle.places.specs.Rows.{fact_of, reaches_some, row_reaches};
 ghost use Rattle.lookup.specs.Views.{branch_in};
 ghost use Rattle.std.specs.Prelude.{◌≡◌};
 
-use calculus::rows::RoleRow;
+use calculus::row_kinds::RoleRow;
 use kb::axioms::Assertion;
 use kb::base::Base;
 use kb::names::{Concept, Individual, Role};

@@ -9,7 +9,7 @@ use Rattle.kb.specs.declared.names.Concept.{Concept}
 use Rattle.kb.specs.declared.names.Individual.{Individual}
 use Rattle.kb.specs.declared.names.Role.{Role}
 use Rattle.kb.specs.Meanings.{Meaning}
-use Rattle.calculus.specs.declared.rows.ConceptRow.{ConceptRow}
+use Rattle.calculus.specs.declared.row_kinds.ConceptRow.{ConceptRow}
 use Rattle.calculus.specs.Branches.{Branch, any, concept_row_holds, head_of, held}
 use Rattle.calculus.specs.StepLaws.{appended, missing}
 

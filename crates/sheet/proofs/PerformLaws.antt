@@ -6,8 +6,8 @@ use Rattle.kb.specs.declared.axioms.Assertion.TheVariants.{Is, Joins, Same, Diff
 use Rattle.kb.specs.Meanings.{Meaning}
 use Rattle.calculus.specs.declared.fault.StepFault.{StepFault}
 use Rattle.calculus.specs.declared.fault.StepFault.TheVariants.{Full}
-use Rattle.calculus.specs.declared.rows.ConceptRow.{ConceptRow}
-use Rattle.calculus.specs.declared.rows.PendingRow.{PendingRow}
+use Rattle.calculus.specs.declared.row_kinds.ConceptRow.{ConceptRow}
+use Rattle.calculus.specs.declared.row_kinds.PendingRow.{PendingRow}
 use Rattle.calculus.specs.Branches.{Branch, held}
 use Rattle.calculus.specs.Playing.{Played, Written, accepted, close, cut_to, extend, free, individuals_after, note, noteable, perform, room}
 use Rattle.calculus.specs.States.{Ledgers, State, branch, branch_of, every}

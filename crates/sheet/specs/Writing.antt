@@ -6,8 +6,8 @@ use Rattle.kb.specs.declared.axioms.Assertion.TheVariants.{Is, Joins}
 use Rattle.kb.specs.Meanings.{Meaning}
 use Rattle.calculus.specs.declared.fault.StepFault.{StepFault}
 use Rattle.calculus.specs.declared.fault.StepFault.TheVariants.{Premise, Full}
-use Rattle.calculus.specs.declared.rows.ConceptRow.{ConceptRow}
-use Rattle.calculus.specs.declared.rows.PendingRow.{PendingRow}
+use Rattle.calculus.specs.declared.row_kinds.ConceptRow.{ConceptRow}
+use Rattle.calculus.specs.declared.row_kinds.PendingRow.{PendingRow}
 use Rattle.calculus.specs.Playing.{Played, Written, accepted, cut_to, free, individuals_after, note, noteable, room, rows_of, write}
 use Rattle.calculus.specs.Branches.{Branch, held}
 use Rattle.calculus.specs.States.{Ledgers, State, every}

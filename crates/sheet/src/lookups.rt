@@ -13,7 +13,7 @@ ghost use Rattle.table.specs.FactLists.{adds_of};
 ghost use Rattle.table.specs.Rules.{rule_of};
 
 use calculus::fault::StepFault;
-use calculus::rows::PendingRow;
+use calculus::row_kinds::PendingRow;
 use kb::axioms::Assertion;
 use kb::base::Base;
 use kb::names::{Concept, Individual, Role};

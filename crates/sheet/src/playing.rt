@@ -11,7 +11,7 @@ use crate::lookups::{is_held_before, look_up};
 use crate::state::Sheet;
 use crate::writing::{can_write, has_place_behind, row_count, write_adds};
 use calculus::fault::StepFault;
-use calculus::rows::{ConceptRow, PendingRow};
+use calculus::row_kinds::{ConceptRow, PendingRow};
 use calculus::step::Step;
 use kb::axioms::Assertion;
 use kb::base::Base;

@@ -5,7 +5,7 @@ ghost use Rattle.ledgers.specs.Contents.{ledgers_of};
 ghost use Rattle.sheet.specs.Writing.{can_write, rows_in, write_adds};
 ghost use Rattle.std.specs.Prelude.{◌≡◌, length};
 
-use calculus::rows::PendingRow;
+use calculus::row_kinds::PendingRow;
 use kb::axioms::Assertion;
 use ledger::Ledger;
 use ledgers::Ledgers;

@@ -6,7 +6,7 @@ ghost use Rattle.std.specs.Prelude.{◌≡◌};
 
 use crate::adds::Adds;
 use crate::facts::Facts;
-use calculus::rows::ConceptRow;
+use calculus::row_kinds::ConceptRow;
 use kb::axioms::Assertion;
 use kb::names::{Concept, Individual};
 

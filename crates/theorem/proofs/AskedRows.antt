@@ -2,7 +2,7 @@
 use Rattle.std.proofs.Common.{◌≡◌, ℕ, ◌/◌, ◌<◌, ◌≤◌, true, false, ◌&&◌, leb, List, ◌++◌, map, length, take, refl, ap, ◌∙◌, subst, arith, length-take}
 use Rattle.std.proofs.lemmas.List.{take_all}
 use Rattle.std.proofs.lemmas.Bool.{and_parts, both_ways, leb-true, ltb-true}
-use Rattle.std.specs.List.{AllByRecursion as All}
+use Rattle.std.specs.List.{AllByRecursion}
 use Rattle.rows.proofs.RowLaws.{row_at-found}
 use Rattle.kb.specs.declared.axioms.Assertion.{Assertion}
 use Rattle.kb.specs.declared.axioms.Assertion.TheVariants.{Is, Joins, Same, Different, Unlisted}
@@ -25,7 +25,7 @@ abbrev pub Ranged : Counts → Assertion → Type 0
 Ranged n a = assertion_in_range n a ≡ true
 
 -- Each assertion of a base in range is in range.
-pub assertions_ranged : (m : Meaning) → InRange m → All (Ranged (counts_of m)) m.assertions
+pub assertions_ranged : (m : Meaning) → InRange m → AllByRecursion (Ranged (counts_of m)) m.assertions
 assertions_ranged m range =
     all_from_rows (Ranged (counts_of m)) m.assertions (λ k a e.
     row-passes (λ _. assertion_in_range (counts_of m)) m.assertions k a e
@@ -105,10 +105,10 @@ module _ (lower : Meaning) (st : Statement) (asked : Asked lower st) where
       let s = sizes-small (counts_of (asking lower st)) asked.sizes in
       not-cut 65535 (lower.assertions ++ map tell_assertion denied) (omega (arith, s.assertions))
 
-  told_ranged : All (Ranged (counts_of (asking lower st))) (map tell_assertion denied)
+  told_ranged : AllByRecursion (Ranged (counts_of (asking lower st))) (map tell_assertion denied)
   told_ranged =
       all_append_right (Ranged (counts_of (asking lower st))) lower.assertions (map tell_assertion denied)
-      (subst (All (Ranged (counts_of (asking lower st)))) uncut (assertions_ranged (asking lower st) asked.rows))
+      (subst (AllByRecursion (Ranged (counts_of (asking lower st)))) uncut (assertions_ranged (asking lower st) asked.rows))
 
   uncapped : map tell_assertion denied ≡ denied
   uncapped =
@@ -120,5 +120,5 @@ module _ (lower : Meaning) (st : Statement) (asked : Asked lower st) where
   asked-rows = uncut ∙ ap (λ as'. lower.assertions ++ as') uncapped
 
   -- what denies the statement names only what the question has
-  pub denial_ranged : All (Ranged (counts_of (asking lower st))) (denial lower.individuals st)
-  denial_ranged = subst (All (Ranged (counts_of (asking lower st)))) uncapped told_ranged
+  pub denial_ranged : AllByRecursion (Ranged (counts_of (asking lower st))) (denial lower.individuals st)
+  denial_ranged = subst (AllByRecursion (Ranged (counts_of (asking lower st)))) uncapped told_ranged

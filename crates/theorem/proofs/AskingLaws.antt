@@ -3,7 +3,7 @@ use Rattle.std.proofs.Common.{◌≡◌, ℕ, ◌<◌, ◌⊎◌, List, ◌++◌
 use Rattle.std.proofs.ByRecursion.{All-append, All-weaker}
 use Rattle.std.proofs.lemmas.Slice.Eq.{bytes_eq-Decides}
 use Rattle.std.proofs.lemmas.Bool.{and_parts, both_ways, cases_Bool, ltb-true}
-use Rattle.std.specs.List.{AllByRecursion as All}
+use Rattle.std.specs.List.{AllByRecursion}
 use Rattle.std.specs.Str.{bytes_eq}
 use Rattle.kb.proofs.NameLaws.{complement_entry}
 use Rattle.kb.specs.declared.axioms.Inclusion.{Inclusion as InclusionRow}
@@ -40,7 +40,7 @@ sup_there lower i asked =
 module _ (lower : Meaning) (I : Interpretation) (lawful : Lawful I lower.entries) where
   module _ (range : InRange lower) (satisfies : Satisfies I lower) where
     -- the individuals below keep their elements, so the base below stays satisfied
-    lower_asserted : (at : ℕ → List ℕ) → Agree lower.individuals (given I) at → All (Asserted (reassigned I at)) lower.assertions
+    lower_asserted : (at : ℕ → List ℕ) → Agree lower.individuals (given I) at → AllByRecursion (Asserted (reassigned I at)) lower.assertions
     lower_asserted at agree =
         all_from_rows (Asserted (reassigned I at)) lower.assertions (λ k a e.
         asserted_reassigned I at a
@@ -53,11 +53,11 @@ module _ (lower : Meaning) (I : Interpretation) (lawful : Lawful I lower.entries
     extends_satisfies st asked x =
         let P = Asserted (reassigned I x.next) in
         let denied = denial lower.individuals st in
-        let both : All P (lower.assertions ++ denied) =
+        let both : AllByRecursion P (lower.assertions ++ denied) =
         All-append P lower.assertions denied (lower_asserted x.next x.agree)
         (All-weaker (True I x.next) P (asserted_reassigned I x.next) denied x.true_facts) in
         record {
-          assertions = all_row_at P (asking lower st).assertions (subst (All P) (sym (asked-rows lower st asked)) both);
+          assertions = all_row_at P (asking lower st).assertions (subst (AllByRecursion P) (sym (asked-rows lower st asked)) both);
           inclusions = satisfies.inclusions;
           keys = λ k key e. key_reassigned I x.next key (satisfies.keys k key e);
         }
@@ -87,9 +87,9 @@ module _ (lower : Meaning) (I : Interpretation) (lawful : Lawful I lower.entries
         (one-or-not (I.individual a) (I.individual b))
 
   module _ (st : Statement) (asked : Asked lower st) (satisfies : Satisfies I (asking lower st)) where
-    asked_asserted : All (Asserted I) (lower.assertions ++ denial lower.individuals st)
+    asked_asserted : AllByRecursion (Asserted I) (lower.assertions ++ denial lower.individuals st)
     asked_asserted =
-        subst (All (Asserted I)) (asked-rows lower st asked)
+        subst (AllByRecursion (Asserted I)) (asked-rows lower st asked)
         (all_from_rows (Asserted I) (asking lower st).assertions satisfies.assertions)
 
     lower_satisfied : Satisfies I lower
@@ -100,7 +100,7 @@ module _ (lower : Meaning) (I : Interpretation) (lawful : Lawful I lower.entries
           keys = satisfies.keys;
         }
 
-    denial_asserted : All (Asserted I) (denial lower.individuals st)
+    denial_asserted : AllByRecursion (Asserted I) (denial lower.individuals st)
     denial_asserted = all_append_right (Asserted I) lower.assertions (denial lower.individuals st) asked_asserted
 
   -- a statement that is denied is broken

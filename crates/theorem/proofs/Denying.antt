@@ -2,7 +2,7 @@
 -- elements of the individuals there are, and where the denying assertions are satisfied the statement is broken.
 use Rattle.std.proofs.Common.{◌≡◌, ℕ, suc, ◌+◌, ◌<◌, eqb, List, [], ◌∷◌, sym, refl, ◌∙◌, arith}
 use Rattle.std.proofs.lemmas.Bool.{cond_both}
-use Rattle.std.specs.List.{AllByRecursion as All}
+use Rattle.std.specs.List.{AllByRecursion}
 use Rattle.kb.specs.declared.axioms.Assertion.{Assertion}
 use Rattle.kb.specs.declared.axioms.Inclusion.{Inclusion as InclusionRow}
 use Rattle.kb.specs.declared.axioms.RolePair.{RolePair}
@@ -24,7 +24,7 @@ module _ (I : Interpretation) where
     pub next : ℕ → List ℕ
     pub elements : (x : ℕ) → Element I (next x)
     pub agree : Agree n at next
-    pub true_facts : All (True I next) facts
+    pub true_facts : AllByRecursion (True I next) facts
 
   abbrev Elements : (ℕ → List ℕ) → Type 0
   Elements at = (x : ℕ) → Element I (at x)
@@ -33,7 +33,7 @@ module _ (I : Interpretation) where
   assigned-elements at n e h d x = cond_both (eqb x n) e (at x) (Element I) (λ _. d) (λ _. h x)
 
   -- the values that e and f share are those of new individuals
-  shared_true : (e f : List ℕ) (x y : Individual) (pairs : List RolePair) → All (Share I e f) pairs → (z : ℕ) (at : ℕ → List ℕ) → Elements at → x.0 < z → y.0 < z → at x.0 ≡ e → at y.0 ≡ f → Extends z at (shared_values x y z pairs)
+  shared_true : (e f : List ℕ) (x y : Individual) (pairs : List RolePair) → AllByRecursion (Share I e f) pairs → (z : ℕ) (at : ℕ → List ℕ) → Elements at → x.0 < z → y.0 < z → at x.0 ≡ e → at y.0 ≡ f → Extends z at (shared_values x y z pairs)
   shared_true e f x y [] s z at d lx ly ex ey = record { next = at; elements = d; agree = λ u l. refl; true_facts = tt }
   shared_true e f x y (p ∷ ps) s z at d lx ly ex ey =
       let g = s.0.0 in
@@ -49,7 +49,7 @@ module _ (I : Interpretation) where
       }
 
   -- two elements that break a key are those of two new individuals
-  pub key_denied : (n : ℕ) (at : ℕ → List ℕ) → Elements at → (c d : Concept) (pairs : RolePairs) (e f : List ℕ) → Element I e → Element I f → In I c e → In I d f → All (Share I e f) (pair_list pairs) → (e ≡ f → ⊥) → Extends n at (denial n (Key c d pairs))
+  pub key_denied : (n : ℕ) (at : ℕ → List ℕ) → Elements at → (c d : Concept) (pairs : RolePairs) (e f : List ℕ) → Element I e → Element I f → In I c e → In I d f → AllByRecursion (Share I e f) (pair_list pairs) → (e ≡ f → ⊥) → Extends n at (denial n (Key c d pairs))
   key_denied n at h c d pairs e f de df ce cf s apart =
       let one = assigned at n e in
       let two = assigned one (n + 1) f in
@@ -83,13 +83,13 @@ module _ (I : Interpretation) where
 
   module _ (individuals : (x : Individual) → Element I (I.individual x)) where
     -- where new individuals are joined to values, the values are shared
-    shared_from : (x y : Individual) (z : ℕ) (pairs : List RolePair) → All (Asserted I) (shared_values x y z pairs) → All (Share I (I.individual x) (I.individual y)) pairs
+    shared_from : (x y : Individual) (z : ℕ) (pairs : List RolePair) → AllByRecursion (Asserted I) (shared_values x y z pairs) → AllByRecursion (Share I (I.individual x) (I.individual y)) pairs
     shared_from x y z [] a = tt
     shared_from x y z (p ∷ ps) a =
         ((I.individual (record { 0 = z }), individuals (record { 0 = z }), a.0, a.1.0), shared_from x y (suc z) ps a.1.1)
 
     -- where what denies a key is satisfied, the key is broken
-    pub key_broken : (n : ℕ) (c d : Concept) (pairs : RolePairs) → All (Asserted I) (denial n (Key c d pairs)) → SatisfiesStatement I (Key c d pairs) → ⊥
+    pub key_broken : (n : ℕ) (c d : Concept) (pairs : RolePairs) → AllByRecursion (Asserted I) (denial n (Key c d pairs)) → SatisfiesStatement I (Key c d pairs) → ⊥
     key_broken n c d pairs a s =
         let x : Individual = record { 0 = n } in
         let y : Individual = record { 0 = n + 1 } in
@@ -97,7 +97,7 @@ module _ (I : Interpretation) where
         (all_row_at (Share I (I.individual x) (I.individual y)) (pair_list pairs) (shared_from x y (n + 2) (pair_list pairs) a.1.1.1)))
 
     -- so is an inclusion, where no element is in its second concept and in the complement
-    pub inclusion_broken : (n : ℕ) (i : InclusionRow) → ((e : List ℕ) → Element I e → In I i.sup e → In I (complement i.sup) e → ⊥) → All (Asserted I) (denial n (Inclusion i)) → SatisfiesStatement I (Inclusion i) → ⊥
+    pub inclusion_broken : (n : ℕ) (i : InclusionRow) → ((e : List ℕ) → Element I e → In I i.sup e → In I (complement i.sup) e → ⊥) → AllByRecursion (Asserted I) (denial n (Inclusion i)) → SatisfiesStatement I (Inclusion i) → ⊥
     inclusion_broken n i not-both a s =
         let x : Individual = record { 0 = n } in
         not-both (I.individual x) (individuals x) (s (I.individual x) (individuals x) a.0) a.1.0

@@ -3,16 +3,16 @@ use Rattle.std.proofs.Common.{◌≡◌, ℕ, suc, ◌+◌, ◌-◌, ◌≤◌, 
 use Rattle.std.proofs.ByRecursion.{All-append}
 use Rattle.std.proofs.lemmas.List.{append_assoc, append-nil, reverse-append, take_all, take-append-le}
 use Rattle.std.proofs.lemmas.Bool.{cases_Bool, cond_both, cond-false, cond-true, ltb-true}
-use Rattle.std.specs.List.{AllByRecursion as All}
+use Rattle.std.specs.List.{AllByRecursion}
 use Rattle.kb.specs.declared.axioms.Assertion.{Assertion}
 use Rattle.kb.specs.declared.axioms.Assertion.TheVariants.{Is, Joins, Same, Different, Unlisted}
 use Rattle.kb.specs.Meanings.{Meaning}
 use Rattle.ledger.specs.Books.{Book, filled, push}
 use Rattle.calculus.specs.declared.fault.StepFault.TheVariants.{Full}
-use Rattle.calculus.specs.declared.rows.ConceptRow.{ConceptRow}
-use Rattle.calculus.specs.declared.rows.PairRow.TheVariants.{Same as SameRow, Different as DifferentRow}
-use Rattle.calculus.specs.declared.rows.PendingRow.{PendingRow}
-use Rattle.calculus.specs.declared.rows.RoleRow.{RoleRow}
+use Rattle.calculus.specs.declared.row_kinds.ConceptRow.{ConceptRow}
+use Rattle.calculus.specs.declared.row_kinds.PairRow.TheVariants.{Same as SameRow, Different as DifferentRow}
+use Rattle.calculus.specs.declared.row_kinds.PendingRow.{PendingRow}
+use Rattle.calculus.specs.declared.row_kinds.RoleRow.{RoleRow}
 use Rattle.calculus.specs.Branches.{Branch, held}
 use Rattle.calculus.specs.Playing.{Written, free, last_of, room, rows_of, write, write_missing}
 use Rattle.calculus.specs.States.{Ledgers, branch_of}
@@ -46,17 +46,17 @@ push-rows x b f = filled-rows b.rows b.free f
     filled-rows rows [] f = absurd (omega (arith, ltb-true 0 0 f))
     filled-rows rows (y ∷ ys) f = refl
 
-pub all_pushed : {A : Type 0} (P : A → Type 0) (x : A) (b : Book A) → All P b.rows → P x → All P (push x b).rows
+pub all_pushed : {A : Type 0} (P : A → Type 0) (x : A) (b : Book A) → AllByRecursion P b.rows → P x → AllByRecursion P (push x b).rows
 all_pushed P x b a p = all_filled b.rows b.free a
   where
-    all_filled : (rows places : List _) → All P rows → All P (filled x rows places).rows
+    all_filled : (rows places : List _) → AllByRecursion P rows → AllByRecursion P (filled x rows places).rows
     all_filled rows [] a = a
     all_filled rows (y ∷ ys) a = All-append P rows (x ∷ []) a (p, tt)
 
-pub all_reverse : {A : Type 0} (P : A → Type 0) (xs : List A) → All P xs → All P (reverse xs)
+pub all_reverse : {A : Type 0} (P : A → Type 0) (xs : List A) → AllByRecursion P xs → AllByRecursion P (reverse xs)
 all_reverse P [] a = tt
 all_reverse P (x ∷ xs) a =
-    subst (All P) (sym (reverse-append (x ∷ []) xs)) (All-append P (reverse xs) (x ∷ []) (all_reverse P xs a.1) (a.0, tt))
+    subst (AllByRecursion P) (sym (reverse-append (x ∷ []) xs)) (All-append P (reverse xs) (x ∷ []) (all_reverse P xs a.1) (a.0, tt))
 
 -- The last pending row stands first in the reversed list.
 pub reverse-push : {A : Type 0} (xs : List A) (x : A) → reverse (xs ++ x ∷ []) ≡ x ∷ reverse xs
@@ -138,7 +138,7 @@ reopened-grown m b b' p g w = ap (with_side m p.side) (cut-grown b b' p g w)
 -- A property that each written fact keeps is kept by what is written.
 pub write_missing_keeps : (m : Meaning) (n : ℕ) (P : Ledgers → Type 0) (Q : Assertion → Type 0) →
     ((l : Ledgers) (a : Assertion) → Q a → P l → P (write a l)) →
-    (facts : List Assertion) → All Q facts → (w v : Written) → P w.ledgers → write_missing m n facts w ≡ Ok v → P v.ledgers
+    (facts : List Assertion) → AllByRecursion Q facts → (w v : Written) → P w.ledgers → write_missing m n facts w ≡ Ok v → P v.ledgers
 write_missing_keeps m n P Q k [] a w v h e = subst (λ (u : Written). P u.ledgers) (Ok_injective e) h
 write_missing_keeps m n P Q k (f ∷ facts) a w v h e =
     let w' : Written = record { ledgers = write f w.ledgers; rows = w.rows + rows_of f } in
@@ -191,7 +191,7 @@ ledgers-write l₀ l (Different x y) g =
     }
 ledgers-write l₀ l (Unlisted kind) g = g
 
-all_units : (facts : List Assertion) → All (λ _. Unit {0}) facts
+all_units : (facts : List Assertion) → AllByRecursion (λ _. Unit {0}) facts
 all_units [] = tt
 all_units (a ∷ facts) = (tt, all_units facts)
 

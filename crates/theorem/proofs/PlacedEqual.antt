@@ -7,7 +7,7 @@ use Rattle.kb.specs.declared.names.Individual.{Individual}
 use Rattle.kb.specs.declared.names.Role.{Role}
 use Rattle.kb.specs.Meanings.{Meaning}
 use Rattle.calculus.proofs.EqualityLaws.{head_reached}
-use Rattle.calculus.specs.declared.rows.RoleRow.{RoleRow}
+use Rattle.calculus.specs.declared.row_kinds.RoleRow.{RoleRow}
 use Rattle.calculus.specs.Branches.{Branch, Equal, chained, head_of, same, self, turned}
 use Rattle.calculus.specs.Holding.{Held}
 use Rattle.calculus.proofs.Accepting.{Ok_injective}

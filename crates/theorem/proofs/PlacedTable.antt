@@ -1,7 +1,7 @@
 -- What the lines of the table write, over a base in range and on a branch whose rows lie as they should.
 use Rattle.std.proofs.Common.{◌≡◌, ℕ, ◌%◌, ◌<◌, Bool, true, false, ◌&&◌, eqb, ltb, ◌⊎◌, List, [], ◌∷◌, length, Ok, Err, Result, sym, refl, subst, inl, inr, ⊎_elim, arith}
 use Rattle.std.proofs.lemmas.Bool.{and_from, and_parts, eqb-true, ltb-true}
-use Rattle.std.specs.List.{AllByRecursion as All}
+use Rattle.std.specs.List.{AllByRecursion}
 use Rattle.rows.proofs.RowLaws.{row_at-found}
 use Rattle.rows.specs.declared.fault.RowFault.{RowFault}
 use Rattle.rows.specs.Rows.{row_at}
@@ -78,7 +78,7 @@ module _ (m : Meaning) where
   -- A line that writes only what may be written: facts, facts that are held already, a new individual with its row, a
   -- split; or that closes.
   pub data Line (b : Branch) : Rule → Type 0 where
-    adds-rows : (needs adds : List Assertion) → All (Placeable m b.individuals) adds → Line b (adding needs adds)
+    adds-rows : (needs adds : List Assertion) → AllByRecursion (Placeable m b.individuals) adds → Line b (adding needs adds)
     adds-held : (needs adds : List Assertion) → every (held m b) adds ≡ true → Line b (adding needs adds)
     adds-new :
         (needs : List Assertion) (r : Role) (x : Individual) (d : Concept) → r.0 < m.roles → OfBranch b x → entry_number d < length m.entries

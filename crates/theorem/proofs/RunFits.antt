@@ -1,6 +1,6 @@
 -- On every sheet that is reached, base and ledgers are the sheet's: no step or review of a run is refused with 5.
 use Rattle.std.proofs.Common.{◌≡◌, ℕ, ◌<◌, ◌≤◌, Bool, true, ◌⊎◌, List, [], ◌∷◌, ◌++◌, reverse, length, take, Some, None, Ok, Err, Option, Result, sym, refl, ap, ◌∙◌, subst, inl, inr, ⊎_elim, arith, length-append}
-use Rattle.std.specs.List.{AllByRecursion as All}
+use Rattle.std.specs.List.{AllByRecursion}
 use Rattle.std.proofs.ByRecursion.{All-weaker}
 use Rattle.std.proofs.lemmas.List.{length-take-le, reverse-reverse}
 use Rattle.std.proofs.lemmas.Bool.{and_from, cases_Bool, eq-eqb, le-leb, lt-ltb}
@@ -11,10 +11,10 @@ use Rattle.kb.specs.Names.{entry_number}
 use Rattle.ledger.specs.Books.{Book, cut, size}
 use Rattle.calculus.specs.declared.fault.StepFault.{StepFault}
 use Rattle.calculus.specs.declared.lengths.Lengths.{Lengths}
-use Rattle.calculus.specs.declared.rows.ConceptRow.{ConceptRow}
-use Rattle.calculus.specs.declared.rows.PairRow.{PairRow}
-use Rattle.calculus.specs.declared.rows.PairRow.TheVariants.{Same as SameRow, Different as DifferentRow}
-use Rattle.calculus.specs.declared.rows.PendingRow.{PendingRow}
+use Rattle.calculus.specs.declared.row_kinds.ConceptRow.{ConceptRow}
+use Rattle.calculus.specs.declared.row_kinds.PairRow.{PairRow}
+use Rattle.calculus.specs.declared.row_kinds.PairRow.TheVariants.{Same as SameRow, Different as DifferentRow}
+use Rattle.calculus.specs.declared.row_kinds.PendingRow.{PendingRow}
 use Rattle.calculus.specs.declared.step.Step.{Step}
 use Rattle.calculus.specs.Branches.{held}
 use Rattle.calculus.specs.Playing.{Played, left, opened, play}
@@ -37,7 +37,7 @@ snoc_view [] = inl refl
 snoc_view (x ∷ xs) =
     inr (⊎_elim (λ e. ([], x, ap (λ ys. x ∷ ys) e)) (λ v. (x ∷ v.0, v.1, ap (λ ys. x ∷ ys) v.2)) (snoc_view xs))
 
-all_every : {A : Type 0} (P : A → Type 0) (test : A → Bool) → ((x : A) → P x → test x ≡ true) → (xs : List A) → All P xs → every test xs ≡ true
+all_every : {A : Type 0} (P : A → Type 0) (test : A → Bool) → ((x : A) → P x → test x ≡ true) → (xs : List A) → AllByRecursion P xs → every test xs ≡ true
 all_every P test passes [] a = refl
 all_every P test passes (x ∷ xs) a = and_from (test x) (every test xs) (passes x a.0) (all_every P test passes xs a.1)
 
@@ -96,7 +96,7 @@ module _ (m : Meaning) where
   notes-more c r p n c' r' p' n' hc hr hp hn [] k = tt
   notes-more c r p n c' r' p' n' hc hr hp hn (d ∷ ds) k = (noted_more c r p n c' r' p' n' hc hr hp hn d k.0, k.1)
 
-  notes_all : (c r p n : ℕ) (ds : List PendingRow) → Notes c r p n ds → All (Noted c r p n) ds
+  notes_all : (c r p n : ℕ) (ds : List PendingRow) → Notes c r p n ds → AllByRecursion (Noted c r p n) ds
   unfolding Notes
   notes_all c r p n [] k = tt
   notes_all c r p n (d ∷ ds) k =
@@ -138,7 +138,7 @@ module _ (m : Meaning) where
       let n = s.numbers.individuals in
       let P : PendingRow → Type 0 = Noted c r p n in
       let all = all_reverse P (reverse s.ledgers.pending.rows) (notes_all c r p n (reverse s.ledgers.pending.rows) k) in
-      all_every P _ (noted-fits s) s.ledgers.pending.rows (subst (All P) (reverse-reverse s.ledgers.pending.rows) all)
+      all_every P _ (noted-fits s) s.ledgers.pending.rows (subst (AllByRecursion P) (reverse-reverse s.ledgers.pending.rows) all)
 
   rows-placed : (s : State) → Placed m (branch s) → PendingNoted s → rows_fit (counts_of m) s.numbers.individuals s.ledgers ≡ true
   rows-placed s placed k =

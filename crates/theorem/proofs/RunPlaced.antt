@@ -1,7 +1,7 @@
 -- The rows of every sheet that is reached lie as they should, on its branch and on those that its pending rows take up.
 use Rattle.std.proofs.Common.{◌≡◌, ℕ, ◌+◌, ◌-◌, ◌<◌, true, false, cond, ◌&&◌, ltb, leb, List, [], ◌∷◌, reverse, length, take, Some, None, Ok, Err, Option, Result, sym, refl, ap, ◌∙◌, subst, ⊎_elim, arith}
 use Rattle.std.proofs.lemmas.Bool.{and_parts, cases_Bool, cond-false, cond-true}
-use Rattle.std.specs.List.{AllByRecursion as All}
+use Rattle.std.specs.List.{AllByRecursion}
 use Rattle.kb.specs.declared.axioms.Assertion.{Assertion}
 use Rattle.kb.specs.declared.axioms.Assertion.TheVariants.{Is, Joins}
 use Rattle.kb.specs.declared.names.Concept.{Concept}
@@ -13,9 +13,9 @@ use Rattle.kb.specs.Names.{entry_number}
 use Rattle.calculus.proofs.HeldLaws.{held-means}
 use Rattle.calculus.specs.declared.fault.StepFault.{StepFault}
 use Rattle.calculus.specs.declared.fault.StepFault.TheVariants.{Changed, Closed, Full, Premise}
-use Rattle.calculus.specs.declared.rows.ConceptRow.{ConceptRow}
-use Rattle.calculus.specs.declared.rows.PendingRow.{PendingRow}
-use Rattle.calculus.specs.declared.rows.RoleRow.{RoleRow}
+use Rattle.calculus.specs.declared.row_kinds.ConceptRow.{ConceptRow}
+use Rattle.calculus.specs.declared.row_kinds.PendingRow.{PendingRow}
+use Rattle.calculus.specs.declared.row_kinds.RoleRow.{RoleRow}
 use Rattle.calculus.specs.declared.step.Step.{Step}
 use Rattle.calculus.specs.Branches.{Branch, held}
 use Rattle.calculus.specs.Holding.{Held}
@@ -51,7 +51,7 @@ module _ (m : Meaning) where
     pub pending : PendingPlaced (branch s) (stack s)
 
   -- rows are written: what is pending is as it was
-  grown-pending : (b b' : Branch) (ps : List PendingRow) → Grown b b' → All (Within b) ps → PendingPlaced b ps → PendingPlaced b' ps
+  grown-pending : (b b' : Branch) (ps : List PendingRow) → Grown b b' → AllByRecursion (Within b) ps → PendingPlaced b ps → PendingPlaced b' ps
   grown-pending b b' [] g w k = tt
   grown-pending b b' (p ∷ ps) g w k = subst (λ c. Placed m c × PendingPlaced c ps) (sym (reopened-grown m b b' p g w.0)) k
 
@@ -62,7 +62,7 @@ module _ (m : Meaning) where
     abbrev n : ℕ
     n = s.numbers.individuals
 
-    within : All (Within (branch s)) (stack s)
+    within : AllByRecursion (Within (branch s)) (stack s)
     within = all_within s.numbers.base n l n (rows_fit_lem m s good)
 
     -- An accepted rule that does not close: what was written, and from where.
@@ -126,7 +126,7 @@ module _ (m : Meaning) where
 
     -- a split: the branch goes on with the left side, and its right side is noted
     split-placed :
-        (side : ConceptRow) (facts : List Assertion) (v : Written) → All (Placeable m n) facts → Placeable m n (Is side.concept side.individual)
+        (side : ConceptRow) (facts : List Assertion) (v : Written) → AllByRecursion (Placeable m n) facts → Placeable m n (Is side.concept side.individual)
         → noteable (Some side) l ≡ true → write_missing m n facts (record { ledgers = note (Some side) n l; rows = 0 }) ≡ Ok v
         → SheetPlaced (accepted s.numbers n false v).state
     split-placed side facts v h hs places e =

@@ -2,7 +2,7 @@
 -- rows take up, one is satisfiable.
 use Rattle.std.proofs.Common.{◌≡◌, ℕ, ◌-◌, ◌≤◌, Bool, true, false, cond, ◌&&◌, ltb, leb, ◌⊎◌, List, [], ◌∷◌, ◌++◌, reverse, length, take, Some, None, Ok, Err, Option, Result, sym, refl, ap, ◌∙◌, subst, inl, inr, ⊎_elim, arith}
 use Rattle.std.proofs.lemmas.Bool.{and_parts, both_ways, cond_both, cond-true}
-use Rattle.std.specs.List.{AllByRecursion as All}
+use Rattle.std.specs.List.{AllByRecursion}
 use Rattle.kb.proofs.CheckLaws.{checked_means}
 use Rattle.kb.specs.declared.axioms.Assertion.TheVariants.{Is}
 use Rattle.kb.specs.declared.fault.BaseFault.TheVariants.{Size}
@@ -11,8 +11,8 @@ use Rattle.kb.specs.Interpretations.{Element, Interpretation, Lawful, Satisfies}
 use Rattle.kb.specs.Meanings.{Meaning, counts_of}
 use Rattle.calculus.specs.declared.fault.StepFault.{StepFault}
 use Rattle.calculus.specs.declared.fault.StepFault.TheVariants.{Changed, Closed, Full, Premise}
-use Rattle.calculus.specs.declared.rows.ConceptRow.{ConceptRow}
-use Rattle.calculus.specs.declared.rows.PendingRow.{PendingRow}
+use Rattle.calculus.specs.declared.row_kinds.ConceptRow.{ConceptRow}
+use Rattle.calculus.specs.declared.row_kinds.PendingRow.{PendingRow}
 use Rattle.calculus.specs.declared.step.Step.{Step}
 use Rattle.calculus.specs.Branches.{Branch, held}
 use Rattle.calculus.specs.Playing.{Played, Written, accepted, close, cut_to, extend, free, individuals_after, last_of, left, note, noteable, opened, perform, play, ready, write_missing}
@@ -65,20 +65,20 @@ module _ (I : Interpretation) (m : Meaning) where
       }
 
   -- rows are written: what is pending is as it was
-  pub grown-satisfiable : (b b' : Branch) (ps : List PendingRow) → Grown b b' → All (Within b) ps → (Satisfiable b → Satisfiable b') → SomeSatisfiable b ps → SomeSatisfiable b' ps
+  pub grown-satisfiable : (b b' : Branch) (ps : List PendingRow) → Grown b b' → AllByRecursion (Within b) ps → (Satisfiable b → Satisfiable b') → SomeSatisfiable b ps → SomeSatisfiable b' ps
   grown-satisfiable b b' ps g w f (here h) = here (f h)
   grown-satisfiable b b' (p ∷ ps) g w f (later a) =
       later (subst (λ c. SomeSatisfiable c ps) (sym (reopened-grown m b b' p g w.0)) a)
 
   -- a split: p notes the branch as it was, and takes it up with the right side
-  pub split-satisfiable : (b b' : Branch) (p : PendingRow) (ps : List PendingRow) → Grown b b' → Within b p → cut_branch p b ≡ b → All (Within b) ps →
+  pub split-satisfiable : (b b' : Branch) (p : PendingRow) (ps : List PendingRow) → Grown b b' → Within b p → cut_branch p b ≡ b → AllByRecursion (Within b) ps →
       (Satisfiable b → Satisfiable b' ⊎ Satisfiable (with_side m p.side b)) → SomeSatisfiable b ps → SomeSatisfiable b' (p ∷ ps)
   split-satisfiable b b' p ps g wp c w f a =
       let q : reopened m p b' ≡ with_side m p.side b = ap (with_side m p.side) (cut-grown b b' p g wp ∙ c) in
       by-branch ps w a (λ h. ⊎_elim here (λ t. later (subst (λ d. SomeSatisfiable d ps) (sym q) (here t))) (f h))
       (λ r. later (subst (λ d. SomeSatisfiable d ps) (sym q) r))
     where
-      by-branch : (ps : List PendingRow) → All (Within b) ps → SomeSatisfiable b ps → (Satisfiable b → SomeSatisfiable b' (p ∷ ps)) → (SomeSatisfiable (with_side m p.side b) ps → SomeSatisfiable b' (p ∷ ps)) → SomeSatisfiable b' (p ∷ ps)
+      by-branch : (ps : List PendingRow) → AllByRecursion (Within b) ps → SomeSatisfiable b ps → (Satisfiable b → SomeSatisfiable b' (p ∷ ps)) → (SomeSatisfiable (with_side m p.side b) ps → SomeSatisfiable b' (p ∷ ps)) → SomeSatisfiable b' (p ∷ ps)
       by-branch ps w (here h) f k = f h
       by-branch (q ∷ ps) w (later a) f k =
           k (later (subst (λ d. SomeSatisfiable d ps) (sym (reopened-grown m b (with_side m p.side b) q (grown-with_side m p.side b) w.0)) a))
@@ -99,7 +99,7 @@ module _ (I : Interpretation) (m : Meaning) where
     fit-rows : rows_fit s.numbers.base n l ≡ true
     fit-rows = rows_fit_lem m s good
 
-    within : All (Within (branch s)) (stack s)
+    within : AllByRecursion (Within (branch s)) (stack s)
     within = all_within s.numbers.base n l n fit-rows
 
     -- a true side may be written

@@ -1,16 +1,16 @@
 -- The rows of a sheet that fits its base name individuals of the sheet, and its pending rows note no more than there is.
 use Rattle.std.proofs.Common.{◌≡◌, ℕ, true, ◌&&◌, leb, List, reverse, length, sym, ◌∙◌}
 use Rattle.std.proofs.lemmas.Bool.{and_parts, leb-true, ltb-true}
-use Rattle.std.specs.List.{AllByRecursion as All}
+use Rattle.std.specs.List.{AllByRecursion}
 use Rattle.kb.specs.declared.counts.Counts.{Counts}
 use Rattle.kb.specs.Interpretations.{Interpretation}
 use Rattle.kb.specs.Meanings.{Meaning, counts_of}
 use Rattle.kb.specs.Range.{concept_in_range, role_in_range}
-use Rattle.calculus.specs.declared.rows.ConceptRow.{ConceptRow}
-use Rattle.calculus.specs.declared.rows.PairRow.{PairRow}
-use Rattle.calculus.specs.declared.rows.PairRow.TheVariants.{Same as SameRow, Different as DifferentRow}
-use Rattle.calculus.specs.declared.rows.PendingRow.{PendingRow}
-use Rattle.calculus.specs.declared.rows.RoleRow.{RoleRow}
+use Rattle.calculus.specs.declared.row_kinds.ConceptRow.{ConceptRow}
+use Rattle.calculus.specs.declared.row_kinds.PairRow.{PairRow}
+use Rattle.calculus.specs.declared.row_kinds.PairRow.TheVariants.{Same as SameRow, Different as DifferentRow}
+use Rattle.calculus.specs.declared.row_kinds.PendingRow.{PendingRow}
+use Rattle.calculus.specs.declared.row_kinds.RoleRow.{RoleRow}
 use Rattle.calculus.specs.States.{Ledgers, State, branch_of, concept_row_fits, every, fits, pair_row_fits, pending_row_fits, role_row_fits, row_counts, rows_fit, same_counts, same_lengths, sizes_of}
 use Rattle.calculus.specs.Table.{below}
 use Rattle.theorem.proofs.Growing.{Within, all_reverse}
@@ -59,7 +59,7 @@ module _ (base : Counts) (n : ℕ) (l : Ledgers) where
         pairs = leb-true p.pairs (length l.pairs.rows) g.1;
       }
 
-  pub all_within : (k : ℕ) → rows_fit base n l ≡ true → All (Within (branch_of l k)) (reverse l.pending.rows)
+  pub all_within : (k : ℕ) → rows_fit base n l ≡ true → AllByRecursion (Within (branch_of l k)) (reverse l.pending.rows)
   all_within k e =
       all_reverse (Within (branch_of l k)) l.pending.rows
       (every-passes (Within (branch_of l k)) (pending_row_fits base n (row_counts l)) l.pending.rows (pending-fit e) (pending-within k))

@@ -3,9 +3,9 @@ use Rattle.std.proofs.Common.{◌≡◌, ℕ, ◌<◌, ◌≤◌, Ok}
 use Rattle.rows.specs.Rows.{row_at}
 use Rattle.kb.specs.declared.names.Individual.{Individual}
 use Rattle.kb.specs.Meanings.{Meaning}
-use Rattle.calculus.specs.declared.rows.ConceptRow.{ConceptRow}
-use Rattle.calculus.specs.declared.rows.PairRow.TheVariants.{Same as SameRow, Different as DifferentRow}
-use Rattle.calculus.specs.declared.rows.RoleRow.{RoleRow}
+use Rattle.calculus.specs.declared.row_kinds.ConceptRow.{ConceptRow}
+use Rattle.calculus.specs.declared.row_kinds.PairRow.TheVariants.{Same as SameRow, Different as DifferentRow}
+use Rattle.calculus.specs.declared.row_kinds.RoleRow.{RoleRow}
 use Rattle.calculus.specs.Branches.{Branch}
 use Rattle.calculus.specs.Conditions.{OnSheet}
 use Rattle.theorem.specs.Placed.{Placed}

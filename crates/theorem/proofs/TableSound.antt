@@ -1,7 +1,7 @@
 -- The rule table is sound: in an interpretation that satisfies the base, true needs make the adds or the right side true.
 use Rattle.std.proofs.Common.{◌≡◌, ℕ, zero, suc, ◌+◌, ◌-◌, ◌*◌, ◌/◌, ◌%◌, ◌<◌, ◌≤◌, Bool, true, false, cond, not, ◌&&◌, eqb, ltb, ◌⊎◌, List, [], ◌∷◌, length, Some, None, Ok, Err, Option, Result, sym, refl, ap, ◌∙◌, subst, inl, inr, ⊎_elim, arith}
 use Rattle.std.proofs.lemmas.Bool.{and_parts, both_ways, cases_Bool, cond-false, cond-true, cond_both, eq-eqb, eqb-false, eqb-true, ltb-true, ne_eqb, not_from_false, not_from_true}
-use Rattle.std.specs.List.{AllByRecursion as All}
+use Rattle.std.specs.List.{AllByRecursion}
 use Rattle.rows.proofs.RowLaws.{row_at-found}
 use Rattle.rows.specs.declared.fault.RowFault.{RowFault}
 use Rattle.rows.specs.Rows.{row_at}
@@ -22,7 +22,7 @@ use Rattle.kb.specs.Numbers.{pair_list}
 use Rattle.kb.specs.Range.{assertion_in_range, entry_in_range, individual_in_range, role_in_range, concept_in_range}
 use Rattle.calculus.specs.declared.fault.StepFault.{StepFault}
 use Rattle.calculus.specs.declared.fault.StepFault.TheVariants.{Kind}
-use Rattle.calculus.specs.declared.rows.ConceptRow.{ConceptRow}
+use Rattle.calculus.specs.declared.row_kinds.ConceptRow.{ConceptRow}
 use Rattle.calculus.specs.declared.shape.Shape.{Shape}
 use Rattle.calculus.specs.declared.shape.Shape.TheVariants.{Plain, Both as BothShape, Some as SomeShape, NotBoth, NotSome}
 use Rattle.calculus.specs.declared.step.Step.{Step}
@@ -60,7 +60,7 @@ module _ (I : Interpretation) where
     pub next : ℕ → List ℕ
     pub elements : (x : ℕ) → Element I (next x)
     pub agree : Agree n at next
-    pub either : All (True I next) r.adds ⊎ SideTrue next r.split
+    pub either : AllByRecursion (True I next) r.adds ⊎ SideTrue next r.split
 
   abbrev pub Follows : ℕ → (ℕ → List ℕ) → Bool → Rule → Type 0
   Follows n at true r = ⊥
@@ -68,7 +68,7 @@ module _ (I : Interpretation) where
 
   -- A line of the table is sound: where its needs are true it cannot close, and an assignment goes on.
   abbrev pub Sound : ℕ → (ℕ → List ℕ) → Rule → Type 0
-  Sound n at r = All (True I at) r.needs → Follows n at r.closes r
+  Sound n at r = AllByRecursion (True I at) r.needs → Follows n at r.closes r
 
   module _ (m : Meaning) where
     -- Every individual is given an element, and each of the base its own.
@@ -170,11 +170,11 @@ module _ (I : Interpretation) where
         shaped b c s e = entry_shape_Ok b c s (row_at m.entries (entry_number c)) refl e
 
         -- The same assignment makes the adds true.
-        same-adds : (needs adds : List Assertion) → (All (True I at) needs → All (True I at) adds) → Sound n at (adding needs adds)
+        same-adds : (needs adds : List Assertion) → (AllByRecursion (True I at) needs → AllByRecursion (True I at) adds) → Sound n at (adding needs adds)
         same-adds needs adds h t = record { next = at; elements = A.elements; agree = λ x l. refl; either = inl (h t) }
 
         -- Or one of two sides.
-        same_sides : (needs : List Assertion) (left right : Concept) (x : Individual) → (All (True I at) needs → True I at (Is left x) ⊎ True I at (Is right x)) → Sound n at (splitting needs left right x)
+        same_sides : (needs : List Assertion) (left right : Concept) (x : Individual) → (AllByRecursion (True I at) needs → True I at (Is left x) ⊎ True I at (Is right x)) → Sound n at (splitting needs left right x)
         same_sides needs left right x h t =
             record { next = at; elements = A.elements; agree = λ x l. refl; either = ⊎_elim (λ p. inl (p, tt)) inr (h t) }
 
@@ -242,7 +242,7 @@ module _ (I : Interpretation) where
         either_sound c x r (NotSome s d) h e = Err_not_Ok e
 
         -- where the shared values are joined, each pair is shared
-        sharing_shares : (x y : Individual) (ps : List RolePair) (zs : List Individual) → length zs ≡ length ps → All (True I at) (sharing x y ps zs) → (k : ℕ) (p : RolePair) → row_at ps k ≡ Ok p → Share I (at x.0) (at y.0) p
+        sharing_shares : (x y : Individual) (ps : List RolePair) (zs : List Individual) → length zs ≡ length ps → AllByRecursion (True I at) (sharing x y ps zs) → (k : ℕ) (p : RolePair) → row_at ps k ≡ Ok p → Share I (at x.0) (at y.0) p
         sharing_shares x y [] zs e h k p q = Err_not_Ok q
         sharing_shares x y (p ∷ ps) [] e h k p' q = absurd (omega arith)
         sharing_shares x y (p ∷ ps) (z ∷ zs) e h zero p' q =

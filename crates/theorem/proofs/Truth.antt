@@ -1,7 +1,7 @@
 -- Assignments of elements to individuals: what is held on a branch is true where its rows are true.
 use Rattle.std.proofs.Common.{◌≡◌, ℕ, min, Bool, true, false, ◌&&◌, ◌||◌, eqb, List, [], ◌∷◌, sym, refl, ap, ◌∙◌, ⊎_elim, arith}
 use Rattle.std.proofs.lemmas.Bool.{and_parts, both_ways, cases_lt, cond_both, eqb-true, or_cases}
-use Rattle.std.specs.List.{AllByRecursion as All}
+use Rattle.std.specs.List.{AllByRecursion}
 use Rattle.kb.specs.declared.axioms.Assertion.{Assertion}
 use Rattle.kb.specs.declared.axioms.Assertion.TheVariants.{Is, Joins, Same, Different, Unlisted}
 use Rattle.kb.specs.declared.names.Concept.{Concept}
@@ -9,27 +9,27 @@ use Rattle.kb.specs.declared.names.Individual.{Individual}
 use Rattle.kb.specs.declared.names.Role.{Role}
 use Rattle.kb.specs.Interpretations.{Interpretation, In, Joined}
 use Rattle.kb.specs.Meanings.{Meaning}
-use Rattle.calculus.specs.declared.rows.ConceptRow.{ConceptRow}
-use Rattle.calculus.specs.declared.rows.PairRow.{PairRow}
-use Rattle.calculus.specs.declared.rows.PairRow.TheVariants.{Same as SameRow, Different as DifferentRow}
-use Rattle.calculus.specs.declared.rows.RoleRow.{RoleRow}
+use Rattle.calculus.specs.declared.row_kinds.ConceptRow.{ConceptRow}
+use Rattle.calculus.specs.declared.row_kinds.PairRow.{PairRow}
+use Rattle.calculus.specs.declared.row_kinds.PairRow.TheVariants.{Same as SameRow, Different as DifferentRow}
+use Rattle.calculus.specs.declared.row_kinds.RoleRow.{RoleRow}
 use Rattle.calculus.specs.Branches.{Branch, any, concept_row_holds, equal, head_of, heads_from, held, join_heads, merged, pair_row_holds, role_row_holds}
 use Rattle.calculus.specs.States.{every}
 
 -- where each item is P, and a test passes at some item
-pub any_all : {A Q : Type 0} (P : A → Type 0) (test : A → Bool) (xs : List A) → All P xs → any test xs ≡ true → ((x : A) → test x ≡ true → P x → Q) → Q
+pub any_all : {A Q : Type 0} (P : A → Type 0) (test : A → Bool) (xs : List A) → AllByRecursion P xs → any test xs ≡ true → ((x : A) → test x ≡ true → P x → Q) → Q
 any_all P test [] a e k = absurd (both_ways false refl e)
 any_all P test (x ∷ xs) a e k =
     ⊎_elim (λ t. k x t a.0) (λ t. any_all P test xs a.1 t k) (or_cases (test x) (any test xs) e)
 
 -- where each item is P, and a test passes at every item
-pub every_all : {A : Type 0} (P Q : A → Type 0) (test : A → Bool) (xs : List A) → every test xs ≡ true → ((x : A) → test x ≡ true → P x → Q x) → All P xs → All Q xs
+pub every_all : {A : Type 0} (P Q : A → Type 0) (test : A → Bool) (xs : List A) → every test xs ≡ true → ((x : A) → test x ≡ true → P x → Q x) → AllByRecursion P xs → AllByRecursion Q xs
 every_all P Q test [] e k a = tt
 every_all P Q test (x ∷ xs) e k a =
     let p = and_parts (test x) (every test xs) e in
     (k x p.0 a.0, every_all P Q test xs p.1 k a.1)
 
-pub every-passes : {A : Type 0} (Q : A → Type 0) (test : A → Bool) (xs : List A) → every test xs ≡ true → ((x : A) → test x ≡ true → Q x) → All Q xs
+pub every-passes : {A : Type 0} (Q : A → Type 0) (test : A → Bool) (xs : List A) → every test xs ≡ true → ((x : A) → test x ≡ true → Q x) → AllByRecursion Q xs
 every-passes Q test [] e k = tt
 every-passes Q test (x ∷ xs) e k =
     let p = and_parts (test x) (every test xs) e in
@@ -67,9 +67,9 @@ module _ (I : Interpretation) (at : ℕ → List ℕ) where
 
   -- Every row of a branch is true.
   pub record RowsTrue (b : Branch) : Type 0 where
-    pub concepts : All ConceptTrue b.concepts
-    pub roles : All RoleTrue b.roles
-    pub pairs : All PairTrue b.pairs
+    pub concepts : AllByRecursion ConceptTrue b.concepts
+    pub roles : AllByRecursion RoleTrue b.roles
+    pub pairs : AllByRecursion PairTrue b.pairs
 
   -- Heads have the elements of those that they are heads of.
   abbrev HeadsAt : (ℕ → ℕ) → Type 0
@@ -80,16 +80,16 @@ module _ (I : Interpretation) (at : ℕ → List ℕ) where
       merged-at at (head x.0) (head y.0) (head z) (h x.0 ∙ t ∙ sym (h y.0)) ∙ h z
   join_heads-at head (DifferentRow x y) h t z = h z
 
-  heads_from-at : (head : ℕ → ℕ) (pairs : List PairRow) → HeadsAt head → All PairTrue pairs → HeadsAt (heads_from head pairs)
+  heads_from-at : (head : ℕ → ℕ) (pairs : List PairRow) → HeadsAt head → AllByRecursion PairTrue pairs → HeadsAt (heads_from head pairs)
   heads_from-at head [] h a = h
   heads_from-at head (p ∷ ps) h a = heads_from-at (join_heads head p) ps (join_heads-at head p h a.0) a.1
 
-  pub head_of-at : (pairs : List PairRow) → All PairTrue pairs → HeadsAt (head_of pairs)
+  pub head_of-at : (pairs : List PairRow) → AllByRecursion PairTrue pairs → HeadsAt (head_of pairs)
   unfolding head_of
   head_of-at pairs a = heads_from-at (λ x. x) pairs (λ x. refl) a
 
   -- equal individuals have one element
-  pub equal-at : (pairs : List PairRow) → All PairTrue pairs → (x y : Individual) → equal pairs x y ≡ true → at x.0 ≡ at y.0
+  pub equal-at : (pairs : List PairRow) → AllByRecursion PairTrue pairs → (x y : Individual) → equal pairs x y ≡ true → at x.0 ≡ at y.0
   equal-at pairs a x y e =
       sym (head_of-at pairs a x.0) ∙ ap at (eqb-true (head_of pairs x.0) (head_of pairs y.0) e) ∙ head_of-at pairs a y.0
 
@@ -131,5 +131,5 @@ module _ (I : Interpretation) (at : ℕ → List ℕ) where
         any_all PairTrue (pair_row_holds m b x y) b.pairs rows.pairs e (pair_row_true x y)
     held_true top (Unlisted kind) e = absurd (both_ways false refl e)
 
-    pub needs_true : ((x : ℕ) → In I (record { 0 = 0 }) (at x)) → (facts : List Assertion) → every (held m b) facts ≡ true → All True facts
+    pub needs_true : ((x : ℕ) → In I (record { 0 = 0 }) (at x)) → (facts : List Assertion) → every (held m b) facts ≡ true → AllByRecursion True facts
     needs_true top facts e = every-passes True (held m b) facts e (held_true top)

@@ -9,8 +9,8 @@ use Rattle.kb.specs.declared.names.Concept.{Concept}
 use Rattle.kb.specs.declared.names.Individual.{Individual}
 use Rattle.kb.specs.declared.names.Role.{Role}
 use Rattle.kb.specs.Meanings.{Meaning}
-use Rattle.calculus.specs.declared.rows.PairRow.TheVariants.{Same as SameRow}
-use Rattle.calculus.specs.declared.rows.RoleRow.{RoleRow}
+use Rattle.calculus.specs.declared.row_kinds.PairRow.TheVariants.{Same as SameRow}
+use Rattle.calculus.specs.declared.row_kinds.RoleRow.{RoleRow}
 use Rattle.calculus.specs.Branches.{Branch, Equal, turned, chained, equal, head_of, held}
 use Rattle.calculus.specs.Holding.{Held}
 use Rattle.calculus.specs.Review.{blocked, blocker, individual, new}

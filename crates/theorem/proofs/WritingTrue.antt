@@ -2,13 +2,13 @@
 use Rattle.std.proofs.Common.{◌≡◌, ℕ, List, [], ◌∷◌, ◌++◌, Ok}
 use Rattle.std.proofs.ByRecursion.{All-push}
 use Rattle.std.proofs.lemmas.Bool.{cond_both}
-use Rattle.std.specs.List.{AllByRecursion as All}
+use Rattle.std.specs.List.{AllByRecursion}
 use Rattle.kb.specs.declared.axioms.Assertion.{Assertion}
 use Rattle.kb.specs.declared.axioms.Assertion.TheVariants.{Is, Joins, Same, Different, Unlisted}
 use Rattle.kb.specs.Interpretations.{Interpretation}
 use Rattle.kb.specs.Meanings.{Meaning}
-use Rattle.calculus.specs.declared.rows.ConceptRow.{ConceptRow}
-use Rattle.calculus.specs.declared.rows.PairRow.TheVariants.{Same as SameRow, Different as DifferentRow}
+use Rattle.calculus.specs.declared.row_kinds.ConceptRow.{ConceptRow}
+use Rattle.calculus.specs.declared.row_kinds.PairRow.TheVariants.{Same as SameRow, Different as DifferentRow}
 use Rattle.calculus.specs.Branches.{Branch, held}
 use Rattle.calculus.specs.Playing.{Written, write, write_missing}
 use Rattle.calculus.specs.States.{Ledgers, branch_of}
@@ -28,7 +28,7 @@ module _ (I : Interpretation) (at : ℕ → List ℕ) where
       record { concepts = h.concepts; roles = h.roles; pairs = all_pushed (PairTrue I at) (DifferentRow x y) l.pairs h.pairs t }
   write_true k l (Unlisted kind) t h = h
 
-  pub write_missing_true : (m : Meaning) (n k : ℕ) (facts : List Assertion) (w v : Written) → write_missing m n facts w ≡ Ok v → All (True I at) facts → RowsTrue I at (branch_of w.ledgers k) → RowsTrue I at (branch_of v.ledgers k)
+  pub write_missing_true : (m : Meaning) (n k : ℕ) (facts : List Assertion) (w v : Written) → write_missing m n facts w ≡ Ok v → AllByRecursion (True I at) facts → RowsTrue I at (branch_of w.ledgers k) → RowsTrue I at (branch_of v.ledgers k)
   write_missing_true m n k facts w v e t h =
       write_missing_keeps m n (λ l. RowsTrue I at (branch_of l k)) (True I at) (write_true k) facts t w v h e
 
