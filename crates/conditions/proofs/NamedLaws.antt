@@ -1,5 +1,5 @@
 -- A concept that no row has is held of nothing, and nothing is found where it is asked about.
-use Rattle.std.proofs.Common.{◌≡◌, ℕ, Bool, true, false, cond, not, ◌&&◌, ◌||◌, eqb, List, [], ◌∷◌, Some, None, Option, sym, refl, ap, ◌∙◌, arith}
+use Rattle.std.proofs.Common.{◌≡◌, ℕ, Bool, true, false, cond, not, ◌&&◌, ◌||◌, eqb, List, [], ◌∷◌, Some, None, Option, refl, ap, ◌∙◌, arith}
 use Rattle.std.proofs.lemmas.Bool.{and_left, ne_eqb, or_from, or_parts, or_right}
 use Rattle.kb.specs.declared.axioms.Assertion.TheVariants.{Is}
 use Rattle.kb.specs.declared.lexicon.Entry.{Entry}

@@ -1,6 +1,5 @@
 -- What is found under each condition: nothing exactly where its test passes, or the first place at which it fails.
-use Rattle.std.proofs.Common.{◌≡◌, ℕ, zero, suc, ◌+◌, ◌*◌, ◌<◌, ◌≤◌, Bool, true, false, not, ◌&&◌, ◌||◌, ◌⊎◌, List, [], ◌∷◌, ◌++◌, length, Some, None, Ok, Err, Decides, Option, Result, sym, refl, ap, ◌∙◌, subst, inl, inr, ⊎_elim, arith}
-use Rattle.std.proofs.lemmas.Bool.Decides.{Decides-like}
+use Rattle.std.proofs.Common.{◌≡◌, ℕ, ◌+◌, ◌*◌, ◌<◌, Bool, true, false, not, ◌&&◌, ◌||◌, [], ◌∷◌, length, Ok, refl, arith}
 use Rattle.rows.specs.Rows.{row_at}
 use Rattle.rows.proofs.RowLaws.{row_at-found}
 use Rattle.kb.specs.declared.axioms.Assertion.{Assertion as AssertionRow}
@@ -10,12 +9,11 @@ use Rattle.kb.specs.declared.axioms.Key.{Key as KeyRow}
 use Rattle.kb.specs.declared.lexicon.Entry.{Entry}
 use Rattle.kb.specs.declared.lexicon.Entry.TheVariants.{Top, Name, Both as BothEntry, Some as SomeEntry, Unlisted}
 use Rattle.kb.specs.declared.names.Concept.{Concept}
-use Rattle.kb.specs.declared.names.Individual.{Individual}
 use Rattle.kb.specs.declared.names.Role.{Role}
 use Rattle.kb.specs.Meanings.{Meaning}
 use Rattle.kb.specs.Names.{complement}
 use Rattle.calculus.specs.Branches.{Branch, equal, held}
-use Rattle.calculus.specs.Review.{all_reached, all_under, blocked, both_parts, concept, condition1, condition2, condition3, condition4, condition5, condition6, condition7, condition8, each_entry, either_part, holds, individual, key_kept, no_clash, no_different, some_reached}
+use Rattle.calculus.specs.Review.{all_reached, all_under, blocked, both_parts, concept, condition2, condition3, condition4, condition5, condition6, condition7, condition8, each_entry, either_part, holds, individual, key_kept, no_clash, no_different, some_reached}
 use Rattle.calculus.proofs.ConditionLaws.{decides_each_entry, decides_unblocked}
 use Rattle.calculus.proofs.DecidingLaws.{decides_all_under, decides_every, decides_implies, decides_true}
 use Rattle.failures.specs.declared.failure.EntryCondition.{EntryCondition}
@@ -24,7 +22,7 @@ use Rattle.failures.specs.declared.failure.Failure.{Failure}
 use Rattle.failures.specs.declared.failure.Failure.TheVariants.{Clash, Apart, Assertion, Both, All, Inclusion, Key, Either, Some as SomeFailure}
 use Rattle.failures.specs.Failures.{asked_of, entry_at, first_apart, first_assertion, first_clash, first_inclusion, first_key, first_of_entries}
 use Rattle.failures.specs.Places.{failure_numbers}
-use Rattle.failures.proofs.Finding.{Finds, finds-both, finds-front, finds_like, finds-nothing, finds-row, finds_test, finds_under, finds-unless, finds_where}
+use Rattle.failures.proofs.Finding.{Finds, finds_like, finds-nothing, finds-row, finds_test, finds_under, finds-unless, finds_where}
 
 -- numbers, the numbers of entries' own concepts, and of their complements
 as_told : (j k : ℕ) → j < k → j < k

@@ -1,10 +1,9 @@
 -- The places that are found are those at which a condition fails in words.
-use Rattle.std.proofs.Common.{◌≡◌, ℕ, ◌+◌, ◌-◌, ◌*◌, ◌%◌, ◌<◌, ◌≤◌, Bool, true, false, not, ◌&&◌, ◌||◌, ◌⊎◌, List, [], ◌∷◌, length, Ok, Decides, sym, refl, ap, ◌∙◌, subst, inl, inr, ⊎_elim, arith}
-use Rattle.std.proofs.lemmas.Bool.{both_ways, cases_Bool, not_from_true, or_from, or_parts, not-false, true≢false}
-use Rattle.std.proofs.lemmas.Bool.Decides.{Decides-and, Decides-or}
+use Rattle.std.proofs.Common.{◌≡◌, ℕ, ◌+◌, ◌-◌, ◌*◌, ◌%◌, ◌<◌, Bool, true, false, not, ◌&&◌, ◌||◌, Ok, Decides, sym, refl, ap, ◌∙◌, subst, arith}
+use Rattle.std.proofs.lemmas.Bool.{both_ways, or_from, or_parts, true≢false}
+use Rattle.std.proofs.lemmas.Bool.Decides.{Decides-and}
 use Rattle.rows.specs.Rows.{row_at}
 use Rattle.rows.proofs.RowLaws.{row_at-found}
-use Rattle.kb.specs.declared.axioms.Assertion.{Assertion as AssertionRow}
 use Rattle.kb.specs.declared.axioms.Assertion.TheVariants.{Is, Joins, Same, Different}
 use Rattle.kb.specs.declared.axioms.Inclusion.{Inclusion as InclusionRow}
 use Rattle.kb.specs.declared.axioms.Key.{Key as KeyRow}

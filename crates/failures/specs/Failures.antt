@@ -1,6 +1,6 @@
 -- Where the conditions of review fail. The first failure is computed: conditions in order 1 to 8, and within a condition the
 -- least place, number by number.
-use Rattle.std.specs.Prelude.{ℕ, zero, suc, ◌+◌, ◌*◌, Bool, true, false, cond, not, ◌&&◌, ◌||◌, length, Some, None, Ok, Err, Option, Result}
+use Rattle.std.specs.Prelude.{ℕ, zero, suc, ◌+◌, ◌*◌, Bool, cond, not, ◌&&◌, ◌||◌, length, Some, None, Ok, Err, Option, Result}
 use Rattle.rows.specs.declared.fault.RowFault.{RowFault}
 use Rattle.rows.specs.Rows.{row_at}
 use Rattle.kb.specs.declared.axioms.Assertion.TheVariants.{Is, Joins, Different}

@@ -1,5 +1,5 @@
 -- What is printed of a case file: all that it holds, and last whether it is accepted.
-use Rattle.std.specs.Prelude.{ℕ, List, [], ◌++◌, Ok, Err, codes, decimal, Result, slice_index}
+use Rattle.std.specs.Prelude.{ℕ, List, ◌++◌, Ok, Err, codes, decimal, Result, slice_index}
 use Rattle.kb.specs.declared.counts.Counts.{Counts}
 use Rattle.kb.specs.declared.fault.BaseFault.{BaseFault}
 use Rattle.kb.specs.declared.fault.BaseFault.TheVariants.{Size, Row}

@@ -1,18 +1,14 @@
 -- A base of equal rows.
-use Rattle.std.specs.Prelude.{ℕ, zero, suc, ◌≤◌, List, [], ◌∷◌, length, replicate}
+use Rattle.std.specs.Prelude.{ℕ, zero, suc, List, replicate}
 use Rattle.std.proofs.Common.{arith}
 use Rattle.std.proofs.lemmas.List.{length-replicate}
 use Rattle.std.specs.List.{AllByRecursion}
-use Rattle.kb.specs.declared.axioms.Assertion.{Assertion}
 use Rattle.kb.specs.declared.axioms.Assertion.TheVariants.{Same}
-use Rattle.kb.specs.declared.axioms.Inclusion.{Inclusion}
-use Rattle.kb.specs.declared.axioms.Key.{Key}
 use Rattle.kb.specs.declared.axioms.Key.TheVariants.{Unlisted}
-use Rattle.kb.specs.declared.lexicon.Entry.{Entry}
 use Rattle.kb.specs.declared.lexicon.Entry.TheVariants.{Name}
 use Rattle.kb.specs.Meanings.{Meaning, Owed, Tellable, TellableList}
 use Rattle.kb.specs.Numbers.{entry_numbers, assertion_numbers, inclusion_numbers, key_numbers}
-use Rattle.kb.specs.Telling.{tell, tell_entry, tell_assertion, tell_inclusion, tell_key, entry_tellable, assertion_tellable, inclusion_tellable, key_tellable}
+use Rattle.kb.specs.Telling.{tell, entry_tellable, assertion_tellable, inclusion_tellable, key_tellable}
 
 -- So many individuals, and so many equal rows in each list.
 abbrev pub many_meaning : ℕ → ℕ → Meaning

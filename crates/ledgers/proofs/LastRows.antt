@@ -1,6 +1,5 @@
 -- The last row of a list is the one whose number is one less than the length.
-use Rattle.std.proofs.Common.{◌≡◌, ℕ, suc, ◌-◌, List, [], ◌∷◌, length, Some, None, Ok, Err, sym, refl, ap, ◌∙◌, arith}
-use Rattle.rows.specs.declared.fault.RowFault.{RowFault}
+use Rattle.std.proofs.Common.{◌≡◌, ℕ, suc, ◌-◌, List, [], ◌∷◌, length, Some, None, Ok, sym, refl, ap, ◌∙◌, arith}
 use Rattle.rows.specs.Rows.{row_at}
 use Rattle.calculus.specs.Playing.{last_of}
 

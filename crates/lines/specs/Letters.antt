@@ -1,5 +1,5 @@
 -- The letter of a line and its numbers, and the step that they are.
-use Rattle.std.specs.Prelude.{ℕ, ◌≤◌, Bool, cond, List, [], ◌∷◌, map, length, Ok, Err, Result, ◌==◌, nat_le}
+use Rattle.std.specs.Prelude.{ℕ, cond, List, [], ◌∷◌, map, length, Ok, Err, Result, ◌==◌, nat_le}
 use Rattle.kb.specs.declared.names.Concept.{Concept}
 use Rattle.kb.specs.declared.names.Individual.{Individual}
 use Rattle.calculus.specs.declared.step.Step.{Step}

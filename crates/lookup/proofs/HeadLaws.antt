@@ -1,5 +1,5 @@
 -- Heads as a list are the calculus' heads, row by row.
-use Rattle.std.proofs.Common.{◌≡◌, ℕ, ◌<◌, ◌≤◌, min, true, ◌||◌, eqb, ltb, List, [], ◌∷◌, ◌++◌, map, length, get_or, sym, ap, ◌∙◌, ⊎_elim, arith}
+use Rattle.std.proofs.Common.{◌≡◌, ℕ, ◌<◌, min, true, ◌||◌, eqb, ltb, List, [], ◌∷◌, ◌++◌, map, length, sym, ap, ◌∙◌, ⊎_elim, arith}
 use Rattle.std.proofs.lemmas.List.{get_or-map, get_or_past, length-map}
 use Rattle.std.proofs.lemmas.Bool.{and_parts, cases_lt, cond-false, ltb-true, ne_eqb, or_from}
 use Rattle.calculus.specs.declared.row_kinds.PairRow.{PairRow}

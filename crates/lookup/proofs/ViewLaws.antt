@@ -1,5 +1,5 @@
 -- Rows that fit a sheet are shown as they are by a view over as many numbers as the sheet has individuals.
-use Rattle.std.proofs.Common.{◌≡◌, ℕ, ◌≤◌, true, cond, ◌&&◌, leb, List, [], ◌∷◌, refl, ap, ◌∙◌}
+use Rattle.std.proofs.Common.{◌≡◌, ℕ, ◌≤◌, true, ◌&&◌, leb, List, [], ◌∷◌, refl, ap, ◌∙◌}
 use Rattle.std.proofs.lemmas.Bool.{and_from, cond-true, le-leb}
 use Rattle.kb.specs.declared.counts.Counts.{Counts}
 use Rattle.calculus.specs.declared.row_kinds.ConceptRow.{ConceptRow}

@@ -1,15 +1,15 @@
 -- A role goes to some individual of which something is held exactly if some row goes there.
-use Rattle.std.proofs.Common.{◌≡◌, ℕ, ◌<◌, ◌≤◌, Bool, true, false, ◌&&◌, ◌||◌, eqb, ltb, List, sym, refl, ap, ◌∙◌, ⊎_elim, arith}
+use Rattle.std.proofs.Common.{◌≡◌, ℕ, ◌<◌, ◌≤◌, true, ◌&&◌, ◌||◌, eqb, refl, ap, ◌∙◌, ⊎_elim, arith}
 use Rattle.std.proofs.lemmas.Bool.{and_from, and_parts, cases_lt, eq-eqb, eqb-true, lt-ltb, ltb-true}
 use Rattle.std.proofs.lemmas.Bool.Decides.{same_from_decides}
-use Rattle.kb.specs.declared.axioms.Assertion.TheVariants.{Is, Joins}
+use Rattle.kb.specs.declared.axioms.Assertion.TheVariants.{Joins}
 use Rattle.kb.specs.declared.names.Individual.{Individual}
 use Rattle.kb.specs.declared.names.Role.{Role}
 use Rattle.kb.specs.Meanings.{Meaning}
 use Rattle.calculus.specs.declared.row_kinds.ConceptRow.{ConceptRow}
 use Rattle.calculus.specs.declared.row_kinds.RoleRow.{RoleRow}
 use Rattle.calculus.specs.Branches.{Branch, any, equal, head_of, held, role_holds, role_row_holds, self}
-use Rattle.calculus.specs.Review.{individual, some_under}
+use Rattle.calculus.specs.Review.{individual}
 use Rattle.calculus.specs.Table.{below}
 use Rattle.calculus.proofs.DecidingLaws.{decides_any, decides_some_under, decides_true}
 use Rattle.calculus.proofs.EqualityLaws.{heads_are_least}

@@ -7,15 +7,13 @@ use Rattle.calculus.specs.declared.review.Finding.{Finding}
 use Rattle.calculus.specs.declared.review.ReviewFault.{ReviewFault}
 use Rattle.calculus.specs.Branches.{Branch}
 use Rattle.calculus.specs.Endings.{Ending, ending}
-use Rattle.calculus.specs.Endings.Ended.{end}
 use Rattle.calculus.specs.Review.{found, lowest_failing, review}
 use Rattle.calculus.specs.Runs.{Run}
-use Rattle.calculus.specs.Runs.Run.{review as reviewed}
 use Rattle.calculus.specs.States.{State, branch, fits}
 use Rattle.failures.specs.declared.failure.Failure.{Failure}
 use Rattle.failures.specs.Failures.{condition_of, first_failure}
-use Rattle.theorem.specs.MainTheorem.{AnswerHolds, EndingHolds}
-use Rattle.theorem.proofs.MainLaws.{main_theorem}
+use Rattle.theorem.specs.Answers.{AnswerHolds, EndingHolds}
+use Rattle.theorem.proofs.AnswerLaws.{answer_holds, ending_holds}
 use Rattle.review.specs.Verdicts.{EndedWith, Reviewed}
 
 module _ (m : Meaning) (scratch : ℕ) (s : State) where
@@ -28,13 +26,13 @@ module _ (m : Meaning) (scratch : ℕ) (s : State) where
   reviewed_as r e =
       record {
         value = e;
-        holds = λ run. subst (AnswerHolds m scratch s) (sym e) (main_theorem.reviews m s run scratch);
-        goes_on = λ run. reviewed run scratch;
+        holds = λ run. answer_holds m s run scratch r e;
+        goes_on = λ run. run;
       }
 
   pub ended_as : (told : Ending) → told ≡ ending m scratch s → EndedWith m scratch s told
   ended_as told e =
       record {
         value = e;
-        holds = λ run. subst (EndingHolds run scratch) (sym e) (main_theorem.endings m s (ending m scratch s) (end run scratch));
+        holds = λ run. ending_holds m s run scratch told e;
       }

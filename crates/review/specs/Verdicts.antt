@@ -7,7 +7,7 @@ use Rattle.calculus.specs.Endings.{Ending, ending}
 use Rattle.calculus.specs.Review.{review}
 use Rattle.calculus.specs.Runs.{Run}
 use Rattle.calculus.specs.States.{State}
-use Rattle.theorem.specs.MainTheorem.{AnswerHolds, EndingHolds}
+use Rattle.theorem.specs.Answers.{AnswerHolds, EndingHolds}
 use Rattle.review.specs.declared.verdict.Verdict.{Verdict}
 
 -- What a verdict tells.

@@ -1,17 +1,15 @@
 -- Calls make a run, and what they answer holds.
-use Rattle.std.proofs.Common.{◌≡◌, ℕ, zero, suc, List, [], ◌∷◌, take, Some, Ok, Option, Result, sym, refl, ap, ◌∙◌, subst, arith}
+use Rattle.std.proofs.Common.{◌≡◌, ℕ, zero, suc, List, [], ◌∷◌, take, Some, Ok, Option, Result, arith}
 use Rattle.rows.specs.Rows.{row_at}
 use Rattle.kb.specs.Meanings.{Meaning}
 use Rattle.calculus.specs.declared.review.Finding.{Finding}
 use Rattle.calculus.specs.declared.review.ReviewFault.{ReviewFault}
 use Rattle.calculus.specs.Endings.{Ending, ending}
-use Rattle.calculus.specs.Endings.Ended.{end}
 use Rattle.calculus.specs.Review.{review}
 use Rattle.calculus.specs.Runs.{Run}
-use Rattle.calculus.specs.Runs.Run.{step, review as reviewed}
+use Rattle.calculus.specs.Runs.Run.{step}
 use Rattle.calculus.specs.States.{State}
-use Rattle.theorem.specs.MainTheorem.{AnswerHolds, EndingHolds}
-use Rattle.theorem.proofs.MainLaws.{main_theorem}
+use Rattle.theorem.proofs.AnswerLaws.{answer_holds, ending_holds}
 use Rattle.runs.specs.declared.call.Answer.TheVariants.{Review as ReviewAnswer}
 use Rattle.runs.specs.declared.call.Call.{Call}
 use Rattle.runs.specs.declared.call.Call.TheVariants.{Step as StepCall, Review as ReviewCall}
@@ -21,7 +19,7 @@ use Rattle.runs.specs.Holding.{RunHolds}
 module _ (m : Meaning) (scratch : ℕ) where
   call_runs : (c : Call) (s : State) → Run m s → Run m (after_call m scratch c s)
   call_runs (StepCall t) s run = step run scratch t
-  call_runs ReviewCall s run = reviewed run scratch
+  call_runs ReviewCall s run = run
 
   calls_run : (cs : List Call) (s : State) → Run m s → Run m (after_calls m scratch cs s)
   calls_run [] s run = run
@@ -45,8 +43,8 @@ module _ (m : Meaning) (scratch : ℕ) where
         runs = λ n. calls_run (take n calls) s run;
         reviews = λ n r e.
             let t = after_calls m scratch (take n calls) s in
-            subst (AnswerHolds m scratch t) (sym (review-answered calls s n r e)) (main_theorem.reviews m t (calls_run (take n calls) s run) scratch);
+            answer_holds m t (calls_run (take n calls) s run) scratch r (review-answered calls s n r e);
         ending = λ e q last.
             let t = after_calls m scratch calls s in
-            subst (EndingHolds last scratch) (sym (ends e q)) (main_theorem.endings m t (ending m scratch t) (end last scratch));
+            ending_holds m t last scratch e (ends e q);
       }

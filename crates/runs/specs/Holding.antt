@@ -7,7 +7,7 @@ use Rattle.calculus.specs.declared.review.ReviewFault.{ReviewFault}
 use Rattle.calculus.specs.Endings.{Ending}
 use Rattle.calculus.specs.Runs.{Run}
 use Rattle.calculus.specs.States.{State}
-use Rattle.theorem.specs.MainTheorem.{AnswerHolds, EndingHolds}
+use Rattle.theorem.specs.Answers.{AnswerHolds, EndingHolds}
 use Rattle.runs.specs.declared.call.Answer.{Answer}
 use Rattle.runs.specs.declared.call.Answer.TheVariants.{Review as ReviewAnswer}
 use Rattle.runs.specs.declared.call.Call.{Call}

@@ -1,5 +1,5 @@
 -- What base and ledgers that are the sheet's give a look-up, and a right side that is taken up.
-use Rattle.std.proofs.Common.{◌≡◌, ℕ, zero, suc, ◌≤◌, Bool, true, false, cond, ◌&&◌, leb, List, [], ◌∷◌, take, Some, None, Ok, Err, sym, refl, ap, ◌∙◌, ⊎_elim, arith}
+use Rattle.std.proofs.Common.{◌≡◌, ℕ, zero, suc, ◌≤◌, Bool, true, leb, List, [], ◌∷◌, take, Some, Ok, sym, refl, ap, ◌∙◌, ⊎_elim, arith}
 use Rattle.std.proofs.lemmas.Bool.{and_from, and_parts, cases_Bool, le-leb, leb-true}
 use Rattle.kb.specs.declared.counts.Counts.{Counts}
 use Rattle.kb.specs.Meanings.{Meaning, counts_of}
@@ -9,7 +9,6 @@ use Rattle.calculus.specs.declared.row_kinds.PairRow.{PairRow}
 use Rattle.calculus.specs.declared.row_kinds.PairRow.TheVariants.{Same as SameRow, Different as DifferentRow}
 use Rattle.calculus.specs.declared.row_kinds.PendingRow.{PendingRow}
 use Rattle.calculus.specs.declared.row_kinds.RoleRow.{RoleRow}
-use Rattle.calculus.specs.Branches.{Branch}
 use Rattle.calculus.specs.Playing.{last_of, ready}
 use Rattle.calculus.specs.States.{State, concept_row_fits, every, fits, pair_row_fits, pending_row_fits, role_row_fits, row_counts, rows_fit, same_counts, same_lengths, sizes_of}
 use Rattle.calculus.specs.Table.{below}

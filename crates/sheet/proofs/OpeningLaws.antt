@@ -1,5 +1,5 @@
 -- When opening is accepted, and what it leaves.
-use Rattle.std.proofs.Common.{◌≡◌, ℕ, true, false, Ok, Err, Result, sym, refl, ap, ◌∙◌, ⊎_elim, arith}
+use Rattle.std.proofs.Common.{◌≡◌, ℕ, true, false, Ok, Err, Result, sym, ap, ◌∙◌, ⊎_elim, arith}
 use Rattle.std.proofs.lemmas.Bool.{cases_Bool}
 use Rattle.kb.specs.declared.counts.Counts.{Counts}
 use Rattle.kb.specs.declared.fault.BaseFault.{BaseFault}
@@ -7,11 +7,11 @@ use Rattle.kb.specs.Check.{checked_base, sizes_accepted}
 use Rattle.kb.specs.Meanings.{Meaning, counts_of}
 use Rattle.calculus.specs.declared.lengths.Lengths.{Lengths}
 use Rattle.calculus.specs.Playing.{emptied, opened}
-use Rattle.calculus.specs.Runs.{Run, lengths_accepted, opening}
+use Rattle.calculus.specs.Runs.{lengths_accepted, opening}
 use Rattle.calculus.specs.Runs.Run.{start}
 use Rattle.calculus.specs.States.{Ledgers, State, row_counts, sizes_of}
 use Rattle.sheet.specs.declared.state.Sheet.{Sheet}
-use Rattle.sheet.specs.States.{Opened, opened_as, state_of}
+use Rattle.sheet.specs.States.{Opened, opened_as}
 
 -- the state of a sheet before any step, over a base with these counts, in ledgers of these sizes
 abbrev pub begun : Counts → Lengths → Lengths → Ledgers → State

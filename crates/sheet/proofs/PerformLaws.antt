@@ -4,12 +4,11 @@ use Rattle.std.proofs.lemmas.Bool.{cases_Bool, lt-ltb}
 use Rattle.kb.specs.declared.axioms.Assertion.{Assertion}
 use Rattle.kb.specs.declared.axioms.Assertion.TheVariants.{Is, Joins, Same, Different, Unlisted}
 use Rattle.kb.specs.Meanings.{Meaning}
-use Rattle.calculus.specs.declared.fault.StepFault.{StepFault}
 use Rattle.calculus.specs.declared.fault.StepFault.TheVariants.{Full}
 use Rattle.calculus.specs.declared.row_kinds.ConceptRow.{ConceptRow}
 use Rattle.calculus.specs.declared.row_kinds.PendingRow.{PendingRow}
 use Rattle.calculus.specs.Branches.{Branch, held}
-use Rattle.calculus.specs.Playing.{Played, Written, accepted, close, cut_to, extend, free, individuals_after, note, noteable, perform, room}
+use Rattle.calculus.specs.Playing.{close, cut_to, extend, free, individuals_after, note, noteable, perform, room}
 use Rattle.calculus.specs.States.{Ledgers, State, branch, branch_of, every}
 use Rattle.calculus.specs.StepLaws.{appended, entered, missing, side_of}
 use Rattle.calculus.specs.Table.{Rule, and_then}

@@ -1,4 +1,5 @@
 pub mod AllRows
+pub mod AnswerLaws
 pub mod AskedRows
 pub mod AskingLaws
 pub mod Denying

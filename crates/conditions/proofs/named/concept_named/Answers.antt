@@ -1,5 +1,5 @@
 -- A turn passes a row of another concept, or ends with the row's concept, which has the number asked for.
-use Rattle.std.proofs.Common.{◌≡◌, eqb, sym, ap, ◌∙◌, arith}
+use Rattle.std.proofs.Common.{sym, ◌∙◌}
 use Rattle.std.proofs.lemmas.Bool.{eq-eqb, ne_eqb}
 use Rattle.scan.proofs.Scans.{any_drop_all, any-drop-found, any-drop-more}
 use Rattle.lookup.specs.Views.{branch_in}

@@ -1,6 +1,5 @@
-use Rattle.std.proofs.Common.{◌≡◌, [], ◌∷◌, ◌++◌, length, get_or, take, sym, ap, ◌∙◌, arith, lit<, length-take}
+use Rattle.std.proofs.Common.{[], ◌∷◌, ◌++◌, length, get_or, sym, ap, ◌∙◌, arith, lit<, length-take}
 use Rattle.std.proofs.lemmas.List.{take_all, take_more}
-use Rattle.lines.specs.Few.{items}
 use Rattle.lines.proofs.numbers.few.Goals as goal
 
 pub push-requires : goal.push-requires

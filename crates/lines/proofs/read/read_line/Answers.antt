@@ -4,7 +4,7 @@ use Rattle.std.proofs.lemmas.Result.{err_from_is_err_and}
 use Rattle.lines.specs.Letters.{step_of}
 use Rattle.lines.specs.Reading.{seen_line, seen_numbers}
 use Rattle.lines.specs.Steps.{line_step}
-use Rattle.lines.proofs.LineLaws.{Told, no_letter, no_newline, no_numbers, no_step, step-told}
+use Rattle.lines.proofs.LineLaws.{no_letter, no_newline, no_numbers, no_step, step-told}
 use Rattle.lines.proofs.read.read_line.Goals as goal
 
 pub returns-in_err-letter : goal.returns-in_err-letter

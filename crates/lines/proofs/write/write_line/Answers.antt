@@ -1,9 +1,9 @@
-use Rattle.std.proofs.Common.{◌≡◌, ◌-◌, ◌<◌, ◌++◌, length, drop, Err, ap, ◌∙◌, arith}
+use Rattle.std.proofs.Common.{◌-◌, ◌<◌, ◌++◌, length, drop, Err, ap, ◌∙◌, arith}
 use native.Mathlib.Nat.{sub-zero}
 use Rattle.std.proofs.lemmas.Result.{err_from_is_err_and}
 use Rattle.lines.specs.Few.{items}
 use Rattle.lines.specs.Spelling.{step_text}
-use Rattle.lines.proofs.WriteLaws.{Answered, SpelledStep, refused, short, spelled_step, wrote}
+use Rattle.lines.proofs.WriteLaws.{refused, short, spelled_step, wrote}
 use Rattle.lines.proofs.write.write_line.Goals as goal
 
 pub returns-in_err-numbers : goal.returns-in_err-numbers

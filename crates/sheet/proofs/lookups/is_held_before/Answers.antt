@@ -1,10 +1,9 @@
 -- The view shows the fronts of the rows: the branch cut back to what the side notes.
-use Rattle.std.proofs.Common.{◌≡◌, length, take, sym, ap, ◌∙◌}
+use Rattle.std.proofs.Common.{length, take, ap, ◌∙◌}
 use Rattle.calculus.specs.Branches.{held}
 use Rattle.calculus.specs.StepLaws.{side_of}
 use Rattle.ledgers.specs.Contents.{ledgers_of}
 use Rattle.lookup.specs.Heads.{names_below}
-use Rattle.lookup.specs.Views.{branch_in, branch_over}
 use Rattle.sheet.proofs.FitLaws.{branchOver-named, every_take}
 use Rattle.sheet.proofs.lookups.is_held_before.Goals as goal
 

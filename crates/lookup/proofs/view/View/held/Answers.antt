@@ -1,5 +1,5 @@
 -- A concept other than 0 is held where some concept row holds it.
-use Rattle.std.proofs.Common.{◌||◌, eqb, sym, ap, ◌∙◌}
+use Rattle.std.proofs.Common.{◌||◌, sym, ap, ◌∙◌}
 use Rattle.std.proofs.lemmas.Bool.{ne_eqb}
 use Rattle.calculus.specs.Branches.{any, concept_row_holds, held}
 use Rattle.lookup.specs.Views.{branch_in}

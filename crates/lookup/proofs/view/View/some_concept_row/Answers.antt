@@ -1,6 +1,5 @@
 -- A turn passes a row of the concept whose individual is another, and at the end there is no such row left.
 use Rattle.std.proofs.Common.{Bool, List, sym, ◌∙◌}
-use Rattle.kb.specs.declared.names.Individual.{Individual}
 use Rattle.calculus.specs.declared.row_kinds.ConceptRow.{ConceptRow}
 use Rattle.calculus.specs.declared.row_kinds.PairRow.{PairRow}
 use Rattle.calculus.specs.Branches.{equal}

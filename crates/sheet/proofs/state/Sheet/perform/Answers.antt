@@ -1,5 +1,5 @@
 -- The rows are looked up on the sheet's own branch; what is missing extends it.
-use Rattle.std.proofs.Common.{◌≡◌, sym, ap, ◌∙◌, arith}
+use Rattle.std.proofs.Common.{sym, ap, ◌∙◌, arith}
 use Rattle.calculus.specs.States.{branch_of}
 use Rattle.ledgers.specs.Contents.{ledgers_of}
 use Rattle.sheet.specs.States.{state_of}

@@ -1,5 +1,5 @@
 -- A sheet that is ready has its own base and ledgers, and a scratch for its individuals.
-use Rattle.std.proofs.Common.{◌≡◌, ◌≤◌, length, sym, arith}
+use Rattle.std.proofs.Common.{length, sym, arith}
 use Rattle.std.proofs.lemmas.List.{length-take}
 use Rattle.ledgers.specs.Contents.{ledgers_of}
 use Rattle.sheet.specs.States.{state_of}
