@@ -1,8 +1,9 @@
 #!/usr/bin/env python3
 """Brings the names of this repository's own antt definitions and lemmas to the library's spelling.
 
-Types are in upper camel case, all else is in snake case. A dash stays where it joins the names of two definitions; a plain
-word is added with an underscore. Names that Rattle makes (goals, steps of a proof) and names of src/ stay as they are.
+Types are in upper camel case, all else is in snake case. In the name of a lemma a dash stays where it joins the names of
+definitions; a plain word is added with an underscore. Names that Rattle makes (goals, steps of a proof) and names of src/
+stay as they are.
 
     python3 tools/respell.py [--dry]     at the top of the repository
 
@@ -17,7 +18,13 @@ TOKEN = re.compile(rf"(?<!{WORD})[A-Za-z]{WORD}*")
 DECLARED = re.compile(rf"^\s*(?:(?:abbrev|unfoldable|pub)\s+)*([A-Za-z]{WORD}*) :(?= )(.*)$")
 HEAD = re.compile(rf"^\s*(?:pub )?(?:record|data)\s+([A-Za-z]{WORD}*)")
 # Names that would fall together with a definition's, by hand.
-CHOSEN = {"no-clash": "clash_free", "lowest-failing": "lowest_fails", "pair-rows": "pair_rows"}
+CHOSEN = {
+    "no-clash": "clash_free",
+    "lowest-failing": "lowest_fails",
+    "concept-rows": "concept_rows",
+    "role-rows": "role_rows",
+    "pair-rows": "pair_rows",
+}
 # Lemmas of a crate that have the new name of a definition already: they get `_lem`.
 TAKEN = {"theorem": ["rows_fit"], "words": ["number_word"]}
 # Words of the library that lemmas are about.
@@ -30,6 +37,21 @@ def files():
             for path in sorted((top / folder).rglob("*")):
                 if path.suffix in (".antt", ".rt", ".edit"):
                     yield path
+
+
+def fields(lines):
+    """The names of the fields of the records that a file of antt declares."""
+    inside = None
+    for line in lines:
+        depth = len(line) - len(line.lstrip())
+        if inside is not None and (depth <= inside or not line.strip()):
+            inside = None
+        if re.match(r"\s*(?:pub )?record\s", line):
+            inside = depth
+        elif inside is not None:
+            found = DECLARED.match(line)
+            if found:
+                yield found.group(1)
 
 
 def declared(path, lines):
@@ -63,13 +85,14 @@ def respelled(name, is_type, known):
 def main():
     dry = "--dry" in sys.argv
     text = {path: path.read_text() for path in files()}
-    names, types = {}, set()
+    names, of_records = {}, set()
     for path, body in text.items():
         if path.suffix == ".antt":
+            of_records |= set(fields(body.splitlines()))
             for name, is_type in declared(path, body.splitlines()):
                 names[name] = names.get(name, False) or is_type
     known = LIBRARY | {snake(n) for n in names if "-" not in n}
-    new = {n: respelled(n, t, known) for n, t in names.items()}
+    new = {n: respelled(n, t, known if n not in of_records else set()) for n, t in names.items()}
     # A lemma that would have the name of a definition gets `_lem`.
     definitions = {m for n, m in new.items() if "-" not in n}
     new = {n: m + "_lem" if "-" in n and m in definitions else m for n, m in new.items()}
@@ -91,7 +114,7 @@ def main():
                 print(f"falls together: {path}: {', '.join(olds)} -> {made}{' (stands there)' if made in present else ''}")
         here = dict(new)
         if path.suffix == ".antt":
-            here.update({n: n + "_lem" for n in TAKEN.get(path.parts[1], [])})
+            here.update({n: n + "_lem" for n in TAKEN.get(path.parts[1], []) if n in new.values()})
         turned = "".join(
             p if strings and p.startswith('"') else TOKEN.sub(lambda m: here.get(m.group(0), m.group(0)), p) for p in pieces
         )

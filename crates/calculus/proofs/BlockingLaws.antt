@@ -94,11 +94,11 @@ module _ (m : Meaning) (b : Branch) where
   blocker_of_blocked s h =
       let blocking = (decides_blocks s (blocker m b s)).0 ((blocker-least s).passes (blocker-before s h)) in
       record {
-        is-new = blocking.0;
+        is_new = blocking.0;
         before = blocker-before s h;
         covering = blocking.1;
         least = blocker-first s;
-        not-blocked = blocker-not-blocked s h;
+        not_blocked = blocker-not-blocked s h;
       }
 
   pub blocker_of_unblocked : (s : ℕ) → blocked m b s ≡ false → m.individuals ≤ s → blocker m b s ≡ s
@@ -113,8 +113,8 @@ module _ (m : Meaning) (b : Branch) where
 pub blocker_stands : BlockerStands
 blocker_stands =
     record {
-      covers-exactly = λ m b t s. (covers-means m b t s, covers-from m b t s);
-      blocked-exactly = decides_blocked;
+      covers_exactly = λ m b t s. (covers-means m b t s, covers-from m b t s);
+      blocked_exactly = decides_blocked;
       blocker_of_blocked = blocker_of_blocked;
       blocker_of_unblocked = blocker_of_unblocked;
     }

@@ -166,13 +166,13 @@ when_from false p q = q
 pub conditions_numbered : (m : Meaning) (b : Branch) → Conditions m b → (k : ℕ) → ConditionNumbered m b k
 conditions_numbered m b h k =
     when_from (eqb k 1) (h.clash_free, h.none_different_and_equal)
-    (when_from (eqb k 2) h.assertions-held
-    (when_from (eqb k 3) h.both-parts-held
+    (when_from (eqb k 2) h.assertions_held
+    (when_from (eqb k 3) h.both_parts_held
     (when_from (eqb k 4) h.all_reached_held
-    (when_from (eqb k 5) h.inclusions-decided
-    (when_from (eqb k 6) h.keys-decided
-    (when_from (eqb k 7) h.either-part-held
-    (when_from (eqb k 8) h.some-reached-held tt)))))))
+    (when_from (eqb k 5) h.inclusions_decided
+    (when_from (eqb k 6) h.keys_decided
+    (when_from (eqb k 7) h.either_part_held
+    (when_from (eqb k 8) h.some_reached_held tt)))))))
 
 pub conditions_from : (m : Meaning) (b : Branch) → ((k : ℕ) → 1 ≤ k → k ≤ 8 → ConditionNumbered m b k) → Conditions m b
 conditions_from m b h =
@@ -180,13 +180,13 @@ conditions_from m b h =
     record {
       clash_free = first.0;
       none_different_and_equal = first.1;
-      assertions-held = h 2 (omega arith) (omega arith);
-      both-parts-held = h 3 (omega arith) (omega arith);
+      assertions_held = h 2 (omega arith) (omega arith);
+      both_parts_held = h 3 (omega arith) (omega arith);
       all_reached_held = h 4 (omega arith) (omega arith);
-      inclusions-decided = h 5 (omega arith) (omega arith);
-      keys-decided = h 6 (omega arith) (omega arith);
-      either-part-held = h 7 (omega arith) (omega arith);
-      some-reached-held = h 8 (omega arith) (omega arith);
+      inclusions_decided = h 5 (omega arith) (omega arith);
+      keys_decided = h 6 (omega arith) (omega arith);
+      either_part_held = h 7 (omega arith) (omega arith);
+      some_reached_held = h 8 (omega arith) (omega arith);
     }
 
 module _ (m : Meaning) (b : Branch) where

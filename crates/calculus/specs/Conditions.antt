@@ -102,19 +102,19 @@ pub record Conditions (m : Meaning) (b : Branch) : Type 0 where
   -- No two individuals that are different are equal.
   pub none_different_and_equal : NoneDifferentAndEqual m b
   -- Every assertion is held.
-  pub assertions-held : AssertionsHeld m b
+  pub assertions_held : AssertionsHeld m b
   -- A held BOTH has both parts held.
-  pub both-parts-held : BothPartsHeld m b
+  pub both_parts_held : BothPartsHeld m b
   -- A held ~SOME has the complement of its concept held of all that its role reaches.
   pub all_reached_held : AllReachedHeld m b
   -- Each inclusion is decided: the complement of its first concept is held, or its second.
-  pub inclusions-decided : InclusionsDecided m b
+  pub inclusions_decided : InclusionsDecided m b
   -- Each key is decided on individuals of the base that share its values.
-  pub keys-decided : KeysDecided m b
+  pub keys_decided : KeysDecided m b
   -- A held ~BOTH has the complement of a part held.
-  pub either-part-held : EitherPartHeld m b
+  pub either_part_held : EitherPartHeld m b
   -- A held SOME has its concept held of some individual that its role reaches.
-  pub some-reached-held : SomeReachedHeld m b
+  pub some_reached_held : SomeReachedHeld m b
 
 -- Condition k fails, and those with lower numbers hold.
 pub record LowestFailing (m : Meaning) (b : Branch) (k : ℕ) : Type 0 where

@@ -196,4 +196,4 @@ pub record Unravelled : Type 0 where
   pub first : joins_walks one_individual endless (role 0) (0 ∷ []) (0 ∷ 1 ∷ []) ≡ true
   pub on : joins_walks one_individual endless (role 0) (0 ∷ 1 ∷ []) (0 ∷ 1 ∷ 1 ∷ []) ≡ true
   pub not_back : joins_walks one_individual endless (role 0) (0 ∷ 1 ∷ []) (0 ∷ 1 ∷ []) ≡ false
-  pub walk-on : walk one_individual endless (0 ∷ 1 ∷ 1 ∷ 1 ∷ []) ≡ true
+  pub walk_on : walk one_individual endless (0 ∷ 1 ∷ 1 ∷ 1 ∷ []) ≡ true

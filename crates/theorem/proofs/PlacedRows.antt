@@ -79,9 +79,9 @@ module _ (m : Meaning) where
       → Placed m (record { concepts = b.concepts ++ w ∷ []; roles = b.roles; pairs = b.pairs; individuals = b.individuals })
   placed-concept b w k c l =
       record {
-        base-first = k.base-first;
-        concept-rows = rows-push (λ (v : ConceptRow). (entry_number v.concept < length m.entries) × OfBranch b v.individual) b.concepts w k.concept-rows (c, l);
-        role-rows = k.role-rows;
+        base_first = k.base_first;
+        concept_rows = rows-push (λ (v : ConceptRow). (entry_number v.concept < length m.entries) × OfBranch b v.individual) b.concepts w k.concept_rows (c, l);
+        role_rows = k.role_rows;
         pair_rows = k.pair_rows;
         same_rows = k.same_rows;
         into_base = k.into_base;
@@ -94,11 +94,11 @@ module _ (m : Meaning) where
       (b : Branch) (w : RoleRow) → Placed m b → w.role.0 < m.roles → OfBase m w.from → OfBase m w.to
       → Placed m (record { concepts = b.concepts; roles = b.roles ++ w ∷ []; pairs = b.pairs; individuals = b.individuals })
   placed-role b w k r f t =
-      let first = k.base-first in
+      let first = k.base_first in
       record {
-        base-first = k.base-first;
-        concept-rows = k.concept-rows;
-        role-rows = rows-push (λ (v : RoleRow). (v.role.0 < m.roles) × OfBranch b v.from × OfBranch b v.to) b.roles w k.role-rows (r, omega arith, omega arith);
+        base_first = k.base_first;
+        concept_rows = k.concept_rows;
+        role_rows = rows-push (λ (v : RoleRow). (v.role.0 < m.roles) × OfBranch b v.from × OfBranch b v.to) b.roles w k.role_rows (r, omega arith, omega arith);
         pair_rows = k.pair_rows;
         same_rows = k.same_rows;
         into_base = rows-push (λ (v : RoleRow). OfBase m v.to → OfBase m v.from) b.roles w k.into_base (λ _. f);
@@ -112,10 +112,10 @@ module _ (m : Meaning) where
       → Placed m (record { concepts = b.concepts; roles = b.roles; pairs = b.pairs ++ w ∷ []; individuals = b.individuals })
   placed_pair b w k l =
       record {
-        base-first = k.base-first;
-        concept-rows = k.concept-rows;
-        role-rows = k.role-rows;
-        pair_rows = rows-push (PairBelow b.individuals) b.pairs w k.pair_rows (pair_below_more m.individuals b.individuals w k.base-first l);
+        base_first = k.base_first;
+        concept_rows = k.concept_rows;
+        role_rows = k.role_rows;
+        pair_rows = rows-push (PairBelow b.individuals) b.pairs w k.pair_rows (pair_below_more m.individuals b.individuals w k.base_first l);
         same_rows = λ n x y e.
             ⊎_elim (k.same_rows n x y) (λ h. subst (PairBelow m.individuals) h.1 l) (rowAt-push-cases b.pairs w n (SameRow x y) e);
         into_base = k.into_base;
@@ -135,13 +135,13 @@ module _ (m : Meaning) where
   placed-new b r x k l o =
       let n = b.individuals in
       let w : RoleRow = record { role = r; from = x; to = record { 0 = n } } in
-      let first = k.base-first in
+      let first = k.base_first in
       record {
-        base-first = omega arith;
-        concept-rows = λ i v e. let h = k.concept-rows i v e in let p = h.1 in (h.0, omega arith);
-        role-rows =
+        base_first = omega arith;
+        concept_rows = λ i v e. let h = k.concept_rows i v e in let p = h.1 in (h.0, omega arith);
+        role_rows =
             rows-push (λ (v : RoleRow). (v.role.0 < m.roles) × (v.from.0 < n + 1) × (v.to.0 < n + 1)) b.roles w
-            (λ i v e. let h = k.role-rows i v e in let p = h.1 in let q = h.2 in (h.0, omega arith, omega arith)) (l, omega arith, omega arith);
+            (λ i v e. let h = k.role_rows i v e in let p = h.1 in let q = h.2 in (h.0, omega arith, omega arith)) (l, omega arith, omega arith);
         pair_rows = λ i v e. pair_below_more n (n + 1) v (omega arith) (k.pair_rows i v e);
         same_rows = k.same_rows;
         into_base = rows-push (λ (v : RoleRow). OfBase m v.to → OfBase m v.from) b.roles w k.into_base (λ h. absurd (omega arith));
@@ -151,7 +151,7 @@ module _ (m : Meaning) where
             (λ (q : y.0 ≡ n → ⊥). let u = k.row_into_new y h (omega arith) in (u.0, u.1, row_at-append-found b.roles (w ∷ []) u.0 u.1 u.2, u.3))
             (cases_eq y.0 n);
         one_into_new = one-into-push b.roles w k.one_into_new (λ j v e q h.
-            let p = (k.role-rows j v e).2 in let s : v.to.0 ≡ n = ap (λ (i : Individual). i.0) q in omega arith);
+            let p = (k.role_rows j v e).2 in let s : v.to.0 ≡ n = ap (λ (i : Individual). i.0) q in omega arith);
       }
 
   -- What may be written on a branch of n individuals.

@@ -121,7 +121,7 @@ module _ (m : Meaning) where
       taken_placeable : (a : Assertion) → assertion_in_range (counts_of m) a ≡ true → Placeable m n a
       taken_placeable (Is c x) r =
           let p = and_parts (concept_in_range (counts_of m) c) (individual_in_range (counts_of m) x) r in
-          (ltb-true (entry_number c) (length m.entries) p.0, omega (arith, ltb-true x.0 m.individuals p.1, placed.base-first))
+          (ltb-true (entry_number c) (length m.entries) p.0, omega (arith, ltb-true x.0 m.individuals p.1, placed.base_first))
       taken_placeable (Joins s x y) r =
           let p = and_parts (role_in_range (counts_of m) s) (individual_in_range (counts_of m) x && individual_in_range (counts_of m) y) r in
           let q = and_parts (individual_in_range (counts_of m) x) (individual_in_range (counts_of m) y) p.1 in

@@ -142,9 +142,9 @@ module _ (m : Meaning) where
 
   rows-placed : (s : State) → Placed m (branch s) → PendingNoted s → rows_fit (counts_of m) s.numbers.individuals s.ledgers ≡ true
   rows-placed s placed k =
-      and_from _ _ (every-from _ s.ledgers.concepts.rows (λ w i. let h = placed.concept-rows i.0 w i.1 in
+      and_from _ _ (every-from _ s.ledgers.concepts.rows (λ w i. let h = placed.concept_rows i.0 w i.1 in
       and_from _ _ (lt-ltb (entry_number w.concept) (length m.entries) h.0) (lt-ltb w.individual.0 s.numbers.individuals h.1)))
-      (and_from _ _ (every-from _ s.ledgers.roles.rows (λ w i. let h = placed.role-rows i.0 w i.1 in
+      (and_from _ _ (every-from _ s.ledgers.roles.rows (λ w i. let h = placed.role_rows i.0 w i.1 in
       and_from _ _ (lt-ltb w.role.0 m.roles h.0) (and_from _ _ (lt-ltb w.from.0 s.numbers.individuals h.1) (lt-ltb w.to.0 s.numbers.individuals h.2))))
       (and_from _ _ (every-from _ s.ledgers.pairs.rows (λ w i. pair_fits w i.0 i.1)) (pending-fits s k)))
     where
@@ -215,7 +215,7 @@ module _ (m : Meaning) where
               record {
                 concept = known.0;
                 side = known.1;
-                base = (run_placed m s run).base-first;
+                base = (run_placed m s run).base_first;
                 individuals = individuals_grow q x;
                 concepts = appended_le _ _ _ x.concepts;
                 roles = appended_le _ _ _ x.roles;

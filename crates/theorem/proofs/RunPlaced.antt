@@ -101,8 +101,8 @@ module _ (m : Meaning) where
       where
         none : Held m (branch s) (Joins r x (record { 0 = n })) → ⊥
         none (i, w, e, _, _, t) =
-            let q = new_alone_right m (branch s) placed.now w.to (record { 0 = n }) t placed.now.base-first in
-            let below = (placed.now.role-rows i w e).2 in
+            let q = new_alone_right m (branch s) placed.now w.to (record { 0 = n }) t placed.now.base_first in
+            let below = (placed.now.role_rows i w e).2 in
             let is : w.to.0 ≡ n = ap (λ (y : Individual). y.0) q in
             omega arith
 
@@ -216,9 +216,9 @@ module _ (m : Meaning) where
   opened-placed l =
       record {
         now = record {
-          base-first = omega arith;
-          concept-rows = λ n w e. Err_not_Ok e;
-          role-rows = λ n w e. Err_not_Ok e;
+          base_first = omega arith;
+          concept_rows = λ n w e. Err_not_Ok e;
+          role_rows = λ n w e. Err_not_Ok e;
           pair_rows = λ n w e. Err_not_Ok e;
           same_rows = λ n x y e. Err_not_Ok e;
           into_base = λ n w e. Err_not_Ok e;

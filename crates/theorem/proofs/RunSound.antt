@@ -86,7 +86,7 @@ module _ (I : Interpretation) (m : Meaning) where
   -- What holds of every sheet that is reached.
   pub record Invariant (s : State) : Type 0 where
     pub satisfiable : SomeSatisfiable (branch s) (stack s)
-    pub not-closed : s.numbers.closed ≡ false
+    pub not_closed : s.numbers.closed ≡ false
 
   module _ (s : State) (good : fits m s ≡ true) (a : SomeSatisfiable (branch s) (stack s)) where
     -- the sheet's ledgers and its number of individuals
@@ -174,7 +174,7 @@ module _ (I : Interpretation) (m : Meaning) where
         let v = u.0 in
         let places = and_parts (leb after 1024) (noteable r.split l) q.0 in
         subst (λ (x : Played). Invariant x.state) (Ok_injective u.2)
-        (record { satisfiable = extend-satisfiable r after (individuals-more r.fresh n) goes_on r.split refl places.1 v u.1; not-closed = refl })
+        (record { satisfiable = extend-satisfiable r after (individuals-more r.fresh n) goes_on r.split refl places.1 v u.1; not_closed = refl })
 
     -- a branch that is not satisfiable ends, and the last pending row is taken up: there must be one
     close_invariant : (Satisfiable (branch s) → ⊥) → (o : Option PendingRow) → last_of l.pending.rows ≡ o → (p : Played) → close m s o ≡ Ok p → Invariant p.state
@@ -196,7 +196,7 @@ module _ (I : Interpretation) (m : Meaning) where
           satisfiable = subst (λ c. SomeSatisfiable c (reverse v.ledgers.pending.rows)) (sym b)
               (subst (λ ps. SomeSatisfiable (reopened m row (branch s)) (reverse ps.rows)) (sym g.pending)
               (taken_up (reverse rest) (subst (SomeSatisfiable (branch s)) order a)));
-          not-closed = refl;
+          not_closed = refl;
         })
       where
         taken_up : (ps : List PendingRow) → SomeSatisfiable (branch s) (row ∷ ps) → SomeSatisfiable (reopened m row (branch s)) ps
@@ -248,7 +248,7 @@ module _ (I : Interpretation) (m : Meaning) where
               rows = record { concepts = tt; roles = tt; pairs = tt };
             },
           );
-          not-closed = refl;
+          not_closed = refl;
         }
 
 -- what an accepted opening says of the base and the sheet
@@ -277,4 +277,4 @@ run_invariant I m lawful satisfies s (step {s = before} r scratch t) =
 
 -- so no interpretation satisfies the base of a closed sheet
 pub closed_is_sound : (m : Meaning) (s : State) → Run m s → s.numbers.closed ≡ true → (I : Interpretation) → Lawful I m.entries → Satisfies I m → ⊥
-closed_is_sound m s r c I lawful satisfies = both_ways s.numbers.closed (run_invariant I m lawful satisfies s r).not-closed c
+closed_is_sound m s r c I lawful satisfies = both_ways s.numbers.closed (run_invariant I m lawful satisfies s r).not_closed c

@@ -13,10 +13,10 @@ use Rattle.theorem.specs.Placed.{Placed}
 -- Where the individuals of a base and the new ones stand in the rows of a branch.
 pub record Standing (m : Meaning) (b : Branch) : Type 0 where
   -- The individuals of the base come first.
-  pub base-first : m.individuals ≤ b.individuals
+  pub base_first : m.individuals ≤ b.individuals
   -- Rows name only individuals of the branch.
-  pub concept-rows : (n : ℕ) (w : ConceptRow) → row_at b.concepts n ≡ Ok w → OnSheet m b w.individual
-  pub role-rows : (n : ℕ) (w : RoleRow) → row_at b.roles n ≡ Ok w → OnSheet m b w.from × OnSheet m b w.to
+  pub concept_rows : (n : ℕ) (w : ConceptRow) → row_at b.concepts n ≡ Ok w → OnSheet m b w.individual
+  pub role_rows : (n : ℕ) (w : RoleRow) → row_at b.roles n ≡ Ok w → OnSheet m b w.from × OnSheet m b w.to
   pub same_rows : (n : ℕ) (x y : Individual) → row_at b.pairs n ≡ Ok (SameRow x y) → OnSheet m b x × OnSheet m b y
   pub different_rows : (n : ℕ) (x y : Individual) → row_at b.pairs n ≡ Ok (DifferentRow x y) → OnSheet m b x × OnSheet m b y
   -- Same rows name only individuals of the base.
@@ -27,9 +27,9 @@ pub record Standing (m : Meaning) (b : Branch) : Type 0 where
 pub placed_standing : (m : Meaning) (b : Branch) → Placed m b → Standing m b
 placed_standing m b p =
     record {
-      base-first = p.base-first;
-      concept-rows = λ n w e. (p.concept-rows n w e).1;
-      role-rows = λ n w e. ((p.role-rows n w e).1, (p.role-rows n w e).2);
+      base_first = p.base_first;
+      concept_rows = λ n w e. (p.concept_rows n w e).1;
+      role_rows = λ n w e. ((p.role_rows n w e).1, (p.role_rows n w e).2);
       same_rows = λ n x y e. p.pair_rows n (SameRow x y) e;
       different_rows = λ n x y e. p.pair_rows n (DifferentRow x y) e;
       same_of_base = p.same_rows;

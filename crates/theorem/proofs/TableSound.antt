@@ -151,7 +151,7 @@ module _ (I : Interpretation) where
       record Shaped (b : Bool) (c : Concept) (s : Shape) : Type 0 where
         in_range : b ≡ true
         there : entry_number c < length m.entries
-        at-element : (e : List ℕ) → Element I e → In I c e → ShapeAt e s
+        at_element : (e : List ℕ) → Element I e → In I c e → ShapeAt e s
 
       entry_shape_Ok : (b : Bool) (c : Concept) (s : Shape) (t : Result Entry RowFault) → row_at m.entries (entry_number c) ≡ t → entry_shape b c t ≡ Ok s → Shaped b c s
       entry_shape_Ok b c s (Ok t) f e =
@@ -161,7 +161,7 @@ module _ (I : Interpretation) where
           record {
             in_range = q.0;
             there = l;
-            at-element = λ x d i. subst (ShapeAt x) q.1 (shape_of-at x c t (eqb (c.0 % 2) 0) refl d l r (lawful.entries x (entry_number c) t d f) i);
+            at_element = λ x d i. subst (ShapeAt x) q.1 (shape_of-at x c t (eqb (c.0 % 2) 0) refl d l r (lawful.entries x (entry_number c) t d f) i);
           }
       entry_shape_Ok b c s (Err g) f e = Err_not_Ok e
 
@@ -269,15 +269,15 @@ module _ (I : Interpretation) where
         table_sound (Both c x) r e =
             let p = and_then_Ok (shape_in m n (below n x) c) (both_rule c x) r e in
             let s = shaped (below n x) c p.0 p.1 in
-            both_sound c x r p.0 (s.at-element (at x.0) (A.elements x.0)) p.2
+            both_sound c x r p.0 (s.at_element (at x.0) (A.elements x.0)) p.2
         table_sound (AllStep c x y) r e =
             let p = and_then_Ok (shape_in m n (below n x && below n y) c) (all_rule c x y) r e in
             let s = shaped (below n x && below n y) c p.0 p.1 in
-            all_sound c x y r p.0 (s.at-element (at x.0) (A.elements x.0)) p.2
+            all_sound c x y r p.0 (s.at_element (at x.0) (A.elements x.0)) p.2
         table_sound (SomeStep c x) r e =
             let p = and_then_Ok (shape_in m n (below n x) c) (some_rule c x (record { 0 = n })) r e in
             let s = shaped (below n x) c p.0 p.1 in
-            some_sound c x r p.0 (s.at-element (at x.0) (A.elements x.0)) (ltb-true x.0 n s.in_range) p.2
+            some_sound c x r p.0 (s.at_element (at x.0) (A.elements x.0)) (ltb-true x.0 n s.in_range) p.2
         table_sound (Include k x) r e =
             let p = and_then_Ok (row_in m n (below n x) (row_at m.inclusions k)) (include_rule x) r e in
             let i = p.0 in
@@ -291,7 +291,7 @@ module _ (I : Interpretation) where
         table_sound (Either c x) r e =
             let p = and_then_Ok (shape_in m n (below n x) c) (either_rule c x) r e in
             let s = shaped (below n x) c p.0 p.1 in
-            either_sound c x r p.0 (s.at-element (at x.0) (A.elements x.0)) p.2
+            either_sound c x r p.0 (s.at_element (at x.0) (A.elements x.0)) p.2
         table_sound (Cut c x) r e =
             let p = and_then_Ok (shape_in m n (below n x) c) (λ _. Ok (splitting [] c (complement c) x)) r e in
             let s = shaped (below n x) c p.0 p.1 in

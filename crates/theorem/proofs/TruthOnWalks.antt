@@ -46,7 +46,7 @@ module _ (m : Meaning) (b : Branch) (range : InRange m) (placed : Standing m b) 
       let x = last_from m b u w in
       let before = some-before m range k r d q in
       let in_lexicon = row_at-found m.entries k (Some r d) q in
-      let (y, on, joins, says) = holds.some-reached-held k r d (individual x) q (walk-within m b placed u w h) (walk-not-blocked m b u w h) t in
+      let (y, on, joins, says) = holds.some_reached_held k r d (individual x) q (walk-within m b placed u w h) (walk-not-blocked m b u w h) t in
       ⊎_elim
       (λ low. let v = head_of b.pairs y.0 in
       let one = walk-one m b u w h (into_base_of_base m b placed r (individual x) y joins low) in
@@ -110,7 +110,7 @@ module _ (m : Meaning) (b : Branch) (range : InRange m) (placed : Standing m b) 
   entry_true n k le truth u w h (Both c d) q t =
       let (lc, ld) = both-before m range k c d q in
       let in_lexicon = row_at-found m.entries k (Both c d) q in
-      let (p, s) = holds.both-parts-held k c d (individual (last_from m b u w)) q (walk-within m b placed u w h) (walk-not-blocked m b u w h) t in
+      let (p, s) = holds.both_parts_held k c d (individual (last_from m b u w)) q (walk-within m b placed u w h) (walk-not-blocked m b u w h) t in
       (entry_as_says m b placed range (u ∷ w) k (Both c d) h q).1
       (truth c (omega (arith, lc, le)) (omega (arith, lc, in_lexicon)) u w h p, truth d (omega (arith, ld, le)) (omega (arith, ld, in_lexicon)) u w h s)
   entry_true n k le truth u w h (Some r d) q t =
@@ -133,7 +133,7 @@ module _ (m : Meaning) (b : Branch) (range : InRange m) (placed : Standing m b) 
       ⊎_elim
       (λ not-c. both_ways (sense m b (u ∷ w) c.0) (excluded n truth c (omega (arith, lc, le)) (omega (arith, lc, in_lexicon)) u w h not-c) p)
       (λ not-d. both_ways (sense m b (u ∷ w) d.0) (excluded n truth d (omega (arith, ld, le)) (omega (arith, ld, in_lexicon)) u w h not-d) s)
-      (holds.either-part-held k c d (individual (last_from m b u w)) q (walk-within m b placed u w h) (walk-not-blocked m b u w h) t)
+      (holds.either_part_held k c d (individual (last_from m b u w)) q (walk-within m b placed u w h) (walk-not-blocked m b u w h) t)
   entry_false n k le truth u w h (Some r d) q t g =
       none-reached n k le truth u w h r d q t ((entry_as_says m b placed range (u ∷ w) k (Some r d) h q).0 g)
   entry_false n k le truth u w h (Unlisted kind) q t g = entry_listed m range k kind q

@@ -32,11 +32,11 @@ module _ (m : Meaning) (b : Branch) where
 
   pub target-new : (s : ℕ) → m.individuals ≤ s → m.individuals ≤ target m b s
   target-new s l =
-      cond_both (blocked m b s) (blocker m b s) s (λ t. m.individuals ≤ t) (λ h. (blocker_of_blocked m b s h).is-new) (λ _. l)
+      cond_both (blocked m b s) (blocker m b s) s (λ t. m.individuals ≤ t) (λ h. (blocker_of_blocked m b s h).is_new) (λ _. l)
 
   pub target-not-blocked : (s : ℕ) → blocked m b (target m b s) ≡ false
   target-not-blocked s =
-      cond_both (blocked m b s) (blocker m b s) s (λ t. blocked m b t ≡ false) (λ h. (blocker_of_blocked m b s h).not-blocked) (λ f. f)
+      cond_both (blocked m b s) (blocker m b s) s (λ t. blocked m b t ≡ false) (λ h. (blocker_of_blocked m b s h).not_blocked) (λ f. f)
 
   -- what is held of an individual is held of its target
   pub target-held : (s : ℕ) (c : Concept) → Held m b (Is c (individual s)) → Held m b (Is c (individual (target m b s)))
@@ -241,7 +241,7 @@ module _ (m : Meaning) (b : Branch) where
     pub walk-within : (u : ℕ) (w : List ℕ) → walk m b (u ∷ w) ≡ true → last_from m b u w < b.individuals
     walk-within u w h =
         let (l, _, goes) = walk_first u w h in
-        last_within u w (omega (arith, l, placed.base-first)) goes
+        last_within u w (omega (arith, l, placed.base_first)) goes
 
     -- an individual equal to one of the base is of the base
     pub equal_of_base : (x y : Individual) → Equal b.pairs x y → x.0 < m.individuals → y.0 < m.individuals

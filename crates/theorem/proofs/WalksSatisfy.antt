@@ -89,7 +89,7 @@ module _ (m : Meaning) (b : Branch) (range : InRange m) (some-individual : 1 ≤
   -- assertions
 
   on-sheet : (x : ℕ) → x < m.individuals → x < b.individuals
-  on-sheet x l = omega (arith, l, placed.base-first)
+  on-sheet x l = omega (arith, l, placed.base_first)
 
   concept_asserted : (c : Concept) (x : Individual) → entry_number c < length m.entries → x.0 < m.individuals → Held m b (Is c x) → Asserted (walks m b) (Is c x)
   concept_asserted c x lc lx t =
@@ -152,7 +152,7 @@ module _ (m : Meaning) (b : Branch) (range : InRange m) (some-individual : 1 ≤
       ⊎_elim
       (λ g. absurd (both_ways (sense m b (u ∷ w) i.sub.0) (held_complement_is_false m b range placed holds i.sub (in_lexicon i.sub lc) u w h g) t))
       (λ g. held_is_true m b range placed holds i.sup (in_lexicon i.sup ld) u w h g)
-      (holds.inclusions-decided n i (individual _) q (walk-within m b placed u w h) (walk-not-blocked m b u w h))
+      (holds.inclusions_decided n i (individual _) q (walk-within m b placed u w h) (walk-not-blocked m b u w h))
 
   -- keys
 
@@ -192,7 +192,7 @@ module _ (m : Meaning) (b : Branch) (range : InRange m) (some-individual : 1 ≤
       (⊎_elim
       (λ g. absurd (both_ways (sense m b (u' ∷ []) d.0) (held_complement_is_false m b range placed holds d ld u' [] h' g) t))
       (λ e. sym own ∙ head_from_Equal b.pairs e ∙ own'))
-      (holds.keys-decided n c d pairs (individual u) (individual u') q lu lu' values)
+      (holds.keys_decided n c d pairs (individual u) (individual u') q lu lu' values)
 
   key_in_range_lem : (n : ℕ) (k : Key) → row_at m.keys n ≡ Ok k → key_in_range (counts_of m) k ≡ true
   key_in_range_lem n k q = row-passes (λ _. key_in_range (counts_of m)) m.keys n k q (range.keys n (row_at-found m.keys n k q))
@@ -223,7 +223,7 @@ module _ (m : Meaning) (b : Branch) (range : InRange m) (some-individual : 1 ≤
   pub walks_satisfy : Satisfies (walks m b) m
   walks_satisfy =
       record {
-        assertions = λ n a q. held_asserted a (assertion_in_range_lem n a q) (holds.assertions-held n a q);
+        assertions = λ n a q. held_asserted a (assertion_in_range_lem n a q) (holds.assertions_held n a q);
         inclusions = included;
         keys = keyed;
       }

@@ -28,11 +28,11 @@ PairBelow n (DifferentRow x y) = (x.0 < n) × (y.0 < n)
 
 pub record Placed (m : Meaning) (b : Branch) : Type 0 where
   -- The individuals of the base come first.
-  pub base-first : m.individuals ≤ b.individuals
+  pub base_first : m.individuals ≤ b.individuals
   -- A concept row names a concept of the base and an individual of the branch.
-  pub concept-rows : (n : ℕ) (w : ConceptRow) → row_at b.concepts n ≡ Ok w → (entry_number w.concept < length m.entries) × OfBranch b w.individual
+  pub concept_rows : (n : ℕ) (w : ConceptRow) → row_at b.concepts n ≡ Ok w → (entry_number w.concept < length m.entries) × OfBranch b w.individual
   -- A role row names a role of the base and two individuals of the branch.
-  pub role-rows : (n : ℕ) (w : RoleRow) → row_at b.roles n ≡ Ok w → (w.role.0 < m.roles) × OfBranch b w.from × OfBranch b w.to
+  pub role_rows : (n : ℕ) (w : RoleRow) → row_at b.roles n ≡ Ok w → (w.role.0 < m.roles) × OfBranch b w.from × OfBranch b w.to
   -- A same or different row names two individuals of the branch.
   pub pair_rows : (n : ℕ) (w : PairRow) → row_at b.pairs n ≡ Ok w → PairBelow b.individuals w
   -- A same row names two individuals of the base.

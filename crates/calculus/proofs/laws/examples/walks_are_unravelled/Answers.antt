@@ -6,4 +6,4 @@ use Rattle.calculus.proofs.laws.examples.walks_are_unravelled.Goals as goal
 
 pub returns : goal.returns
 unfolding head_of blocker joins_walks walk
-returns c = record { bent = (refl, refl); first = refl; on = refl; not_back = refl; walk-on = refl }
+returns c = record { bent = (refl, refl); first = refl; on = refl; not_back = refl; walk_on = refl }
