@@ -1,28 +1,46 @@
 -- What is found at the first failure is what review finds, and on a run it holds.
-use Rattle.std.proofs.Common.{◌≡◌, ℕ, ◌≤◌, true, false, leb, Some, None, Ok, Err, Option, Result, sym, refl, ap, ◌∙◌, subst, ⊎_elim}
+use Rattle.std.proofs.Common.{◌≡◌, ℕ, ◌≤◌, true, false, leb, List, Ok, Err, Option, Result, ap, ◌∙◌}
 use Rattle.std.proofs.lemmas.Bool.{le-leb}
 use Rattle.std.specs.Option.{option_map}
 use Rattle.kb.specs.Meanings.{Meaning}
 use Rattle.calculus.specs.declared.review.Finding.{Finding}
+use Rattle.calculus.specs.declared.review.Finding.TheVariants.{Closed}
 use Rattle.calculus.specs.declared.review.ReviewFault.{ReviewFault}
+use Rattle.calculus.specs.declared.review.ReviewFault.TheVariants.{Changed}
+use Rattle.calculus.specs.declared.row_kinds.ConceptRow.{ConceptRow}
+use Rattle.calculus.specs.declared.row_kinds.PairRow.{PairRow}
+use Rattle.calculus.specs.declared.row_kinds.RoleRow.{RoleRow}
 use Rattle.calculus.specs.Branches.{Branch}
 use Rattle.calculus.specs.Endings.{Ending, ending}
 use Rattle.calculus.specs.Review.{found, lowest_failing, review}
-use Rattle.calculus.specs.Runs.{Run}
-use Rattle.calculus.specs.States.{State, branch, fits}
+use Rattle.calculus.specs.States.{Ledgers, State, branch, branch_of, every, fits}
 use Rattle.failures.specs.declared.failure.Failure.{Failure}
 use Rattle.failures.specs.Failures.{condition_of, first_failure}
-use Rattle.theorem.specs.Answers.{AnswerHolds, EndingHolds}
+use Rattle.failures.proofs.FailureLaws.{first_of_lowest}
+use Rattle.lookup.specs.Heads.{names_below}
+use Rattle.lookup.specs.Views.{branch_over}
+use Rattle.sheet.proofs.FitLaws.{branchOver-named}
 use Rattle.theorem.proofs.AnswerLaws.{answer_holds, ending_holds}
 use Rattle.review.specs.Verdicts.{EndedWith, Reviewed}
 
-module _ (m : Meaning) (scratch : ℕ) (s : State) where
-  -- a sheet of its own base and ledgers that is not closed is found by its conditions
-  pub review-finds : fits m s ≡ true → 1024 ≤ scratch → s.numbers.closed ≡ false → review m scratch s ≡ found (lowest_failing m (branch s))
-  review-finds own l unclosed = let long : leb 1024 scratch ≡ true = le-leb 1024 scratch l in rw (own, long, unclosed)
+-- what a view of rows that name only its individuals shows is their branch
+pub view_shows :
+    (l : Ledgers) (n : ℕ) (shown : Branch) (concepts : List ConceptRow) (roles : List RoleRow) (pairs : List PairRow) → n ≤ 65535
+    → every (names_below n) l.pairs.rows ≡ true → concepts ≡ l.concepts.rows → roles ≡ l.roles.rows → pairs ≡ l.pairs.rows
+    → shown ≡ branch_over n concepts roles pairs → shown ≡ branch_of l n
+view_shows l n shown concepts roles pairs few named of_concepts of_roles of_pairs e =
+    e ∙ cc (of_concepts, of_roles, of_pairs) ∙ branchOver-named n l.concepts.rows l.roles.rows l.pairs.rows few named
 
+-- the first failure on the branch that is shown, or none, tells what review finds
+pub found_first :
+    (m : Meaning) (b shown : Branch) (first : Option Failure) → shown ≡ b → first ≡ first_failure m shown
+    → found (option_map condition_of first) ≡ found (lowest_failing m b)
+found_first m b shown first same e =
+    ap (λ (o : Option Failure). found (option_map condition_of o)) (e ∙ ap (first_failure m) same) ∙ ap found (first_of_lowest m b)
+
+module _ (m : Meaning) (scratch : ℕ) (s : State) where
   -- an answer that is the calculus' holds on a run
-  pub reviewed_as : (r : Result Finding ReviewFault) → r ≡ review m scratch s → Reviewed m scratch s r s
+  reviewed_as : (r : Result Finding ReviewFault) → r ≡ review m scratch s → Reviewed m scratch s r s
   reviewed_as r e =
       record {
         value = e;
@@ -30,6 +48,23 @@ module _ (m : Meaning) (scratch : ℕ) (s : State) where
         goes_on = λ run. run;
       }
 
+  -- a base or ledgers that are not the sheet's are told before all else
+  pub reviewed-changed : false ≡ fits m s → Reviewed m scratch s (Err Changed) s
+  reviewed-changed other = reviewed_as (Err Changed) (rw (← other))
+
+  -- a closed sheet of its own base and ledgers is told as closed
+  pub reviewed-closed : true ≡ fits m s → 1024 ≤ scratch → true ≡ s.numbers.closed → Reviewed m scratch s (Ok Closed) s
+  reviewed-closed own l closed =
+      let long : leb 1024 scratch ≡ true = le-leb 1024 scratch l in reviewed_as (Ok Closed) (rw (← own, long, ← closed))
+
+  -- a sheet of its own base and ledgers that is not closed is found by its conditions
+  pub reviewed-found :
+      (r : Result Finding ReviewFault) → true ≡ fits m s → 1024 ≤ scratch → false ≡ s.numbers.closed
+      → r ≡ found (lowest_failing m (branch s)) → Reviewed m scratch s r s
+  reviewed-found r own l unclosed e =
+      let long : leb 1024 scratch ≡ true = le-leb 1024 scratch l in reviewed_as r (rw (← own, long, ← unclosed) e)
+
+  -- an ending that is the calculus' holds on a run
   pub ended_as : (told : Ending) → told ≡ ending m scratch s → EndedWith m scratch s told
   ended_as told e =
       record {
