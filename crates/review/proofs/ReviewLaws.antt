@@ -1,12 +1,12 @@
 -- What is found at the first failure is what review finds, and on a run it holds.
-use Rattle.std.proofs.Common.{◌≡◌, ℕ, ◌≤◌, true, false, leb, List, Ok, Err, Option, Result, ap, ◌∙◌}
-use Rattle.std.proofs.lemmas.Bool.{le-leb}
+use Rattle.std.proofs.Common.{◌≡◌, ℕ, ◌<◌, ◌≤◌, true, false, leb, List, Ok, Err, Option, Result, ap, ◌∙◌}
+use Rattle.std.proofs.lemmas.Bool.{le-leb, lt-leb}
 use Rattle.std.specs.Option.{option_map}
 use Rattle.kb.specs.Meanings.{Meaning}
 use Rattle.calculus.specs.declared.review.Finding.{Finding}
 use Rattle.calculus.specs.declared.review.Finding.TheVariants.{Closed}
 use Rattle.calculus.specs.declared.review.ReviewFault.{ReviewFault}
-use Rattle.calculus.specs.declared.review.ReviewFault.TheVariants.{Changed}
+use Rattle.calculus.specs.declared.review.ReviewFault.TheVariants.{Changed, Full}
 use Rattle.calculus.specs.declared.row_kinds.ConceptRow.{ConceptRow}
 use Rattle.calculus.specs.declared.row_kinds.PairRow.{PairRow}
 use Rattle.calculus.specs.declared.row_kinds.RoleRow.{RoleRow}
@@ -51,6 +51,10 @@ module _ (m : Meaning) (scratch : ℕ) (s : State) where
   -- a base or ledgers that are not the sheet's are told before all else
   pub reviewed-changed : false ≡ fits m s → Reviewed m scratch s (Err Changed) s
   reviewed-changed other = reviewed_as (Err Changed) (rw (← other))
+
+  -- a scratch that is too short is told before it is asked whether the sheet is closed
+  pub reviewed-full : true ≡ fits m s → scratch < 1024 → Reviewed m scratch s (Err Full) s
+  reviewed-full own l = let short : leb 1024 scratch ≡ false = lt-leb 1024 scratch l in reviewed_as (Err Full) (rw (← own, short))
 
   -- a closed sheet of its own base and ledgers is told as closed
   pub reviewed-closed : true ≡ fits m s → 1024 ≤ scratch → true ≡ s.numbers.closed → Reviewed m scratch s (Ok Closed) s

@@ -5,7 +5,7 @@ use Rattle.calculus.specs.Review.{found, lowest_failing}
 use Rattle.calculus.specs.States.{branch_of}
 use Rattle.ledgers.specs.Contents.{ledgers_of}
 use Rattle.sheet.specs.States.{state_of}
-use Rattle.review.proofs.ReviewLaws.{reviewed-changed, reviewed-closed, reviewed-found}
+use Rattle.review.proofs.ReviewLaws.{reviewed-changed, reviewed-closed, reviewed-found, reviewed-full}
 use Rattle.review.proofs.review.Goals as goal
 
 pub returns-then-not-fits : goal.returns-then-not-fits
@@ -13,6 +13,12 @@ returns-then-not-fits g c =
     reviewed-changed (g.B.Base.meaning c.args.base.now) (length c.args.scratch.now)
     (state_of c.args.sheet.now (ledgers_of c.args.ledgers.now))
     c.if-not-fits.ensures
+
+pub returns-then-scratch-lt1024 : goal.returns-then-scratch-lt1024
+returns-then-scratch-lt1024 g c =
+    reviewed-full (g.B.Base.meaning c.args.base.now) (length c.args.scratch.now)
+    (state_of c.args.sheet.now (ledgers_of c.args.ledgers.now))
+    c.if-not-fits.ensures c.if-scratch-lt1024.true
 
 pub returns-then-is_closed : goal.returns-then-is_closed
 returns-then-is_closed g c =
@@ -24,7 +30,6 @@ pub returns : goal.returns
 returns g c =
     let m = g.B.Base.meaning c.args.base.now in
     let l = ledgers_of c.args.ledgers.now in
-    let few = c.args.sheet.now.few in
     let all : length (take (c.from-individuals.result - 0) c.args.scratch.now) ≡ c.args.sheet.now.individuals =
     simp length-take (omega arith) in
     reviewed-found m (length c.args.scratch.now) (state_of c.args.sheet.now l) c.find.result
