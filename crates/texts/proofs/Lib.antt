@@ -1,2 +1,4 @@
 -- Lemmas that the proofs share.
 pub mod LineLaws
+pub mod LoopLaws
+pub mod MeaningLaws

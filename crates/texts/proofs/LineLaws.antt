@@ -1,5 +1,5 @@
 -- What a line that is read and played answers and leaves.
-use Rattle.std.proofs.Common.{◌≡◌, ℕ, ◌+◌, ◌<◌, List, ◌∷◌, length, Ok, Err, Result, sym, refl, ap, ◌∙◌, subst, arith}
+use Rattle.std.proofs.Common.{◌≡◌, ℕ, ◌<◌, List, Ok, Err, Result, sym, refl, ap, ◌∙◌, subst, arith}
 use Rattle.kb.specs.Meanings.{Meaning}
 use Rattle.calculus.specs.declared.fault.StepFault.{StepFault}
 use Rattle.calculus.specs.declared.step.Step.{Step}
@@ -8,12 +8,11 @@ use Rattle.calculus.specs.Playing.{Played, answer, left, perform, play, ready}
 use Rattle.calculus.specs.States.{State}
 use Rattle.calculus.specs.Table.{and_then, rule}
 use Rattle.lines.specs.Reading.{Placed, line_at}
-use Rattle.lines.specs.Spelling.{LineRead, step_text}
 use Rattle.lines.specs.Steps.{unplaced}
 use Rattle.lines.proofs.LineLaws.{line_read}
 use Rattle.sheet.specs.States.{Stepped}
 use Rattle.texts.specs.declared.fault.LineFault.{LineFault}
-use Rattle.texts.specs.declared.fault.LineFault.TheVariants.{Unreadable, Step as StepRefused}
+use Rattle.texts.specs.declared.fault.LineFault.TheVariants.{Step as StepRefused}
 use Rattle.texts.specs.Playing.{LineDone, PlayedLine, line_stepped, play_line}
 
 -- where the shared values of a step lie plays no part
@@ -49,11 +48,11 @@ module _ (m : Meaning) (scratch : ℕ) (text : List ℕ) (from : ℕ) (s : State
   play_line_read p e = rw e
 
   pub line-done :
-      (p : Placed) (t : Step) (a : Result ℕ StepFault) (s' : State) → line_at text from ≡ Ok p → unplaced t ≡ p.step
+      (p : Placed) (t : Step) (a : Result ℕ StepFault) (s' : State) → Ok p ≡ line_at text from → unplaced t ≡ p.step
       → Stepped (play m scratch t s) s a s' → LineDone (play_line m scratch text from s) s (line_answer p a) s'
   line-done p t a s' e same done =
       let q = play m scratch t s in
-      let line = play_line_read p e ∙ ap (λ u. played_from p (play m scratch u s)) (sym same) ∙ ap (played_from p) (sym (play-unplaced m scratch t s)) in
+      let line = play_line_read p (sym e) ∙ ap (λ u. played_from p (play m scratch u s)) (sym same) ∙ ap (played_from p) (sym (play-unplaced m scratch t s)) in
       subst (λ l. LineDone l s (line_answer p a) s') (sym line)
       (subst (λ b. LineDone (played_from p q) s (line_answer p b) s') (sym done.value)
       (subst (LineDone (played_from p q) s (line_answer p (answer q))) (sym done.state) (played_from_done p q s)))
