@@ -11,7 +11,6 @@ use Rattle.calculus.specs.declared.row_kinds.ConceptRow.{ConceptRow}
 use Rattle.calculus.specs.declared.row_kinds.PairRow.{PairRow}
 use Rattle.calculus.specs.declared.row_kinds.RoleRow.{RoleRow}
 use Rattle.calculus.specs.Branches.{Branch}
-use Rattle.calculus.specs.Endings.{Ending, ending}
 use Rattle.calculus.specs.Review.{found, lowest_failing, review}
 use Rattle.calculus.specs.States.{Ledgers, State, branch, branch_of, every, fits}
 use Rattle.failures.specs.declared.failure.Failure.{Failure}
@@ -20,8 +19,8 @@ use Rattle.failures.proofs.FailureLaws.{first_of_lowest}
 use Rattle.lookup.specs.Heads.{names_below}
 use Rattle.lookup.specs.Views.{branch_over}
 use Rattle.sheet.proofs.FitLaws.{branchOver-named}
-use Rattle.theorem.proofs.AnswerLaws.{answer_holds, ending_holds}
-use Rattle.review.specs.Verdicts.{EndedWith, Reviewed}
+use Rattle.theorem.proofs.AnswerLaws.{answer_holds}
+use Rattle.review.specs.Verdicts.{Reviewed}
 
 -- what a view of rows that name only its individuals shows is their branch
 pub view_shows :
@@ -67,11 +66,3 @@ module _ (m : Meaning) (scratch : ℕ) (s : State) where
       → r ≡ found (lowest_failing m (branch s)) → Reviewed m scratch s r s
   reviewed-found r own l unclosed e =
       let long : leb 1024 scratch ≡ true = le-leb 1024 scratch l in reviewed_as r (rw (← own, long, ← unclosed) e)
-
-  -- an ending that is the calculus' holds on a run
-  pub ended_as : (told : Ending) → told ≡ ending m scratch s → EndedWith m scratch s told
-  ended_as told e =
-      record {
-        value = e;
-        holds = λ run. ending_holds m s run scratch told e;
-      }

@@ -1,18 +1,12 @@
--- What review and an ending promise.
+-- What review promises.
 use Rattle.std.specs.Prelude.{◌≡◌, ℕ, Result}
 use Rattle.kb.specs.Meanings.{Meaning}
 use Rattle.calculus.specs.declared.review.Finding.{Finding}
 use Rattle.calculus.specs.declared.review.ReviewFault.{ReviewFault}
-use Rattle.calculus.specs.Endings.{Ending, ending}
 use Rattle.calculus.specs.Review.{review}
 use Rattle.calculus.specs.Runs.{Run}
 use Rattle.calculus.specs.States.{State}
-use Rattle.theorem.specs.Answers.{AnswerHolds, EndingHolds}
-use Rattle.review.specs.declared.verdict.Verdict.{Verdict}
-
--- What a verdict tells.
-abbrev pub ending_of : Verdict → Ending
-ending_of v = record { finding = v.finding; steps = v.steps }
+use Rattle.theorem.specs.Answers.{AnswerHolds}
 
 -- A review of a sheet s over a base, with a scratch of a given length: its answer r is the calculus', and where the sheet comes
 -- from a run the answer holds of every interpretation, and the run goes on.
@@ -20,8 +14,3 @@ pub record Reviewed (m : Meaning) (scratch : ℕ) (s : State) (r : Result Findin
   pub value : r ≡ review m scratch s
   pub holds : Run m s → AnswerHolds m scratch s r
   pub goes_on : Run m s → Run m t
-
--- An ending of a sheet s: what it tells is the calculus', and where the sheet comes from a run it holds.
-pub record EndedWith (m : Meaning) (scratch : ℕ) (s : State) (told : Ending) : Type 0 where
-  pub value : told ≡ ending m scratch s
-  pub holds : (run : Run m s) → EndingHolds run scratch told

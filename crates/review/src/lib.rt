@@ -1,5 +1,5 @@
-// Review of a sheet and its ending, with what they say of every interpretation of the base. Both only look at rows; nothing
-// that writes one belongs here.
+// Review of a sheet, with what it says of every interpretation of the base. It only looks at rows; nothing that writes one
+// belongs here.
 #![tactic(auto)]
 
 ghost use Rattle.std.specs.Prelude.{◌≡◌, ◌≤◌, true, length};
@@ -7,7 +7,7 @@ ghost use Rattle.calculus.specs.Review.{found, lowest_failing};
 ghost use Rattle.calculus.specs.States.{branch_of, every};
 ghost use Rattle.ledgers.specs.Contents.{ledgers_of};
 ghost use Rattle.lookup.specs.Heads.{names_below};
-ghost use Rattle.review.specs.Verdicts.{EndedWith, Reviewed, ending_of};
+ghost use Rattle.review.specs.Verdicts.{Reviewed};
 ghost use Rattle.sheet.specs.States.{state_of};
 
 use calculus::review::{Finding, ReviewFault};
@@ -16,10 +16,6 @@ use kb::base::Base;
 use ledgers::Ledgers;
 use lookup::view::View;
 use sheet::Sheet;
-
-pub mod verdict;
-
-use verdict::Verdict;
 
 // What is found on a sheet that is not closed: open, or the lowest condition that fails.
 fn find<B: Base>(base: &B, ledgers: &Ledgers<'_>, heads: &mut [u16]) -> Result<Finding, ReviewFault>
@@ -60,15 +56,4 @@ pub fn review<B: Base>(
     }
     let individuals = usize::from(sheet.individuals());
     find(base, ledgers, &mut scratch[0..individuals])
-}
-
-/// The verdict on a sheet: what review finds or why it finds nothing, and the steps accepted since opening. It takes the sheet,
-/// so that nothing can be done with it afterwards.
-pub fn end<B: Base>(sheet: Sheet, base: &B, ledgers: &Ledgers<'_>, scratch: &mut [u16]) -> Verdict
-    ensures { EndedWith (B.meaning base.now) (length scratch.old) (state_of sheet (ledgers_of ledgers.now)) (ending_of result) }
-{
-    Verdict {
-        finding: review(&sheet, base, ledgers, scratch),
-        steps: sheet.steps(),
-    }
 }
