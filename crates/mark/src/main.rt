@@ -5,6 +5,7 @@ use anyhow::anyhow;
 use inspect::report::inspect;
 use std::fs::File;
 use std::io::Read;
+use std::process::ExitCode;
 use std::{env, io};
 
 const WORDS: &str =
@@ -45,10 +46,13 @@ fn run(rt: &HostRuntime) -> anyhow::Result<()> {
     }
 }
 
-fn main(rt: HostRuntime) -> anyhow::Result<()> {
-    let result = run(&rt);
-    if let Err(e) = &result {
-        rt.eprintln(format_args!("mark: {e}"))?;
+fn main(rt: HostRuntime) -> ExitCode {
+    match run(&rt) {
+        Ok(()) => ExitCode::SUCCESS,
+        Err(e) => {
+            // Where standard error cannot be written either, the status alone tells.
+            let _ = rt.eprintln(format_args!("mark: {e}"));
+            ExitCode::FAILURE
+        }
     }
-    result
 }
