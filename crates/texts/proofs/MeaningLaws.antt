@@ -19,7 +19,7 @@ use Rattle.texts.specs.declared.fault.TextFault.TheVariants.{Line}
 use Rattle.texts.specs.Playing.{PlayedLine, PlayedText, TextDone, play_line, play_lines, played_on}
 use Rattle.texts.specs.Texts.{Accepted, Stops, TextPlayed, steps_text}
 use Rattle.texts.specs.Texts.Accepted.{first, none}
-use Rattle.texts.specs.Texts.Stops.{at-end, refused, unreadable}
+use Rattle.texts.specs.Texts.Stops.{at_end, refused, unreadable}
 use Rattle.texts.proofs.LineLaws.{line-further}
 use Rattle.texts.proofs.LoopLaws.{lines-at, lines-over}
 
@@ -40,7 +40,7 @@ module _ (m : Meaning) (scratch : ℕ) (text : List ℕ) where
         rest = [];
         spelled = drop_all from text h;
         accepted = none;
-        stops = subst (λ k. Stops m scratch s k [] (Ok n)) (omega arith) (at-end refl);
+        stops = subst (λ k. Stops m scratch s k [] (Ok n)) (omega arith) (at_end refl);
         goes_on = λ run. run;
       }
 

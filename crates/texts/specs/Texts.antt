@@ -26,7 +26,7 @@ module _ (m : Meaning) (scratch : ℕ) where
   -- Why playing stops on a sheet before what is left of a text, after n lines: nothing is left; or no step's text begins what is
   -- left; or one does, and the step is refused.
   pub data Stops (s : State) (n : ℕ) (rest : List ℕ) : Result ℕ TextFault → Type 0 where
-    at-end : rest ≡ [] → Stops s n rest (Ok n)
+    at_end : rest ≡ [] → Stops s n rest (Ok n)
     unreadable : ((t : Step) (more : List ℕ) → writable t ≡ true → rest ≢ step_text t ++ more) → Stops s n rest (Err (Line (n + 1) Unreadable))
     refused :
         (t : Step) (more : List ℕ) (f : StepFault) → rest ≡ step_text t ++ more → play m scratch t s ≡ Err f
