@@ -2,13 +2,14 @@
 use Rattle.std.proofs.Common.{◌≡◌, ℕ, ◌<◌, ◌≤◌, true, false, eqb, Ok, Decides, sym, refl, ap, ◌∙◌, ⊎_elim, arith}
 use Rattle.std.proofs.lemmas.Bool.{and_parts, and_from, both_ways, cases_Bool, cases_lt, eq-eqb, eqb-true, leb-true, le-leb, or_cases, or_left, or_right}
 use Rattle.std.proofs.lemmas.Bool.Decides.{Decides-and, Decides-like}
+use Rattle.std.specs.List.{list_any}
 use Rattle.rows.specs.Rows.{row_at}
 use Rattle.kb.specs.declared.axioms.Assertion.TheVariants.{Is}
 use Rattle.kb.specs.declared.names.Concept.{Concept}
 use Rattle.kb.specs.Meanings.{Meaning}
 use Rattle.calculus.specs.declared.row_kinds.ConceptRow.{ConceptRow}
 use Rattle.calculus.specs.Blocking.{BlockerOf, BlockerStands}
-use Rattle.calculus.specs.Branches.{Branch, any, equal, held, concept_row_holds}
+use Rattle.calculus.specs.Branches.{Branch, equal, held, concept_row_holds}
 use Rattle.calculus.specs.Review.{concept, individual, covers, new, blocks, blocked, blocker, some_under}
 use Rattle.calculus.proofs.DecidingLaws.{Least, decides_any, decides_every, decides_implies, decides_some_under, decides_true, least_under-least}
 
@@ -26,7 +27,7 @@ module _ (m : Meaning) (b : Branch) where
   decides_rows_covered t s =
       decides_every (λ r. decides_implies (equal b.pairs r.individual (individual s)) (held m b (Is r.concept (individual t))) (decides_true _) (decides_true _)) b.concepts
 
-  decides_concept_rows : (c : Concept) (s : ℕ) → Decides (any (concept_row_holds m b c (individual s)) b.concepts) ((n : ℕ) × (r : ConceptRow) × (row_at b.concepts n ≡ Ok r) × (concept_row_holds m b c (individual s) r ≡ true))
+  decides_concept_rows : (c : Concept) (s : ℕ) → Decides (list_any (concept_row_holds m b c (individual s)) b.concepts) ((n : ℕ) × (r : ConceptRow) × (row_at b.concepts n ≡ Ok r) × (concept_row_holds m b c (individual s) r ≡ true))
   decides_concept_rows c s = decides_any (λ r. decides_true (concept_row_holds m b c (individual s) r)) b.concepts
 
   pub covers-means : (t s : ℕ) → covers m b t s ≡ true → Covers t s

@@ -1,8 +1,9 @@
 -- Each test of review decides its condition, and review names the lowest condition that fails.
-use Rattle.std.proofs.Common.{◌≡◌, ℕ, zero, suc, ◌+◌, ◌*◌, ◌/◌, ◌%◌, ◌<◌, ◌≤◌, Bool, true, false, cond, ◌&&◌, eqb, ◌⊎◌, ◌↔◌, List, [], ◌∷◌, length, Some, None, Ok, Decides, MatchBool, Option, sym, refl, ap, ◌∙◌, subst, ⊎_elim, arith}
+use Rattle.std.proofs.Common.{◌≡◌, ℕ, zero, suc, ◌+◌, ◌-◌, ◌*◌, ◌/◌, ◌%◌, ◌<◌, ◌≤◌, Bool, true, false, cond, ◌&&◌, ◌⊎◌, ◌↔◌, List, [], ◌∷◌, length, get_or, Some, None, Ok, Decides, Option, sym, refl, ap, ◌∙◌, subst, ⊎_elim, arith}
 use mathlib.Core.Bool.{false≢true}
 use Rattle.std.proofs.lemmas.Bool.{cases_eq}
 use Rattle.std.proofs.lemmas.Bool.Decides.{Decides-and, Decides-or, Decides-not, Decides-like}
+use Rattle.std.specs.List.{list_all}
 use Rattle.rows.specs.Rows.{row_at}
 use Rattle.kb.specs.declared.axioms.Assertion.{Assertion}
 use Rattle.kb.specs.declared.axioms.Assertion.TheVariants.{Is, Joins, Same, Different}
@@ -17,12 +18,14 @@ use Rattle.kb.specs.declared.names.Role.{Role}
 use Rattle.kb.specs.Meanings.{Meaning}
 use Rattle.kb.specs.Names.{complement}
 use Rattle.kb.specs.Numbers.{pair_list}
+use Rattle.calculus.specs.declared.review.Condition.{Condition}
+use Rattle.calculus.specs.declared.review.Condition.TheVariants.{NoContradiction, Assertions, BothParts, AllReached, Inclusions, Keys, EitherPart, SomeReached}
 use Rattle.calculus.specs.Branches.{Branch, Equal, equal, held}
-use Rattle.calculus.specs.Conditions.{NoClash, NoneDifferentAndEqual, AssertionsHeld, BothPartsHeld, AllReachedHeld, InclusionsDecided, ValuesShared, KeysDecided, EitherPartHeld, SomeReachedHeld, ConditionNumbered, Conditions, LowestFailing, ConditionsTested, ReviewedExactly}
+use Rattle.calculus.specs.Conditions.{NoClash, NoneDifferentAndEqual, AssertionsHeld, BothPartsHeld, AllReachedHeld, InclusionsDecided, ValuesShared, KeysDecided, EitherPartHeld, SomeReachedHeld, ConditionHolds, Conditions, LowestFailing, ConditionsTested, ReviewedExactly}
+use Rattle.calculus.specs.Faults.{condition_number}
 use Rattle.calculus.specs.Holding.{Held}
 use Rattle.calculus.proofs.HeldLaws.{held-from, held-means}
 use Rattle.calculus.specs.Review.{concept, individual, all_under, some_under, blocked, unblocked, no_clash, no_different, entries_from, each_entry, share_value, key_kept, condition1, condition2, condition3, condition4, condition5, condition6, condition7, condition8, lowest_failing}
-use Rattle.calculus.specs.States.{every}
 use Rattle.calculus.proofs.DecidingLaws.{decides_all_under, decides_some_under, decides_every, decides_implies, decides_unless}
 
 -- each individual below a bound, and some
@@ -123,70 +126,93 @@ module _ (m : Meaning) (b : Branch) where
       (λ h x lt f k entry q r d same. h k r d x (q ∙ ap Ok same) lt f)
       (decides_each_entry {P = λ k x entry. (r : Role) (d : Concept) → entry ≡ SomeEntry r d → P k r d x} (λ k x. decides_some (only k x) (each k x)))
 
--- what the lowest failing of the conditions from k to 8 is
-pub record Lowest (C : ℕ → Type 0) (k : ℕ) (o : Option ℕ) : Type 0 where
-  pub none : (o ≡ None) ↔ ((j : ℕ) → k ≤ j → j ≤ 8 → C j)
-  pub some : (n : ℕ) → (o ≡ Some n) ↔ ((k ≤ n) × (n ≤ 8) × (C n → ⊥) × ((j : ℕ) → k ≤ j → j < n → C j))
+-- a condition is known by its number, which is 1 to 8
+condition_at : ℕ → Condition
+condition_at n = get_or (NoContradiction ∷ Assertions ∷ BothParts ∷ AllReached ∷ Inclusions ∷ Keys ∷ EitherPart ∷ SomeReached ∷ []) (n - 1) SomeReached
 
-lowest-none : (C : ℕ → Type 0) → Lowest C 9 None
+condition_at-number : (k : Condition) → condition_at (condition_number k) ≡ k
+unfolding condition_at
+condition_at-number NoContradiction = refl
+condition_at-number Assertions = refl
+condition_at-number BothParts = refl
+condition_at-number AllReached = refl
+condition_at-number Inclusions = refl
+condition_at-number Keys = refl
+condition_at-number EitherPart = refl
+condition_at-number SomeReached = refl
+
+pub condition_number_injective : (j k : Condition) → condition_number j ≡ condition_number k → j ≡ k
+condition_number_injective j k e = sym (condition_at-number j) ∙ ap condition_at e ∙ condition_at-number k
+
+pub condition_number-range : (k : Condition) → (1 ≤ condition_number k) × (condition_number k ≤ 8)
+condition_number-range NoContradiction = (omega arith, omega arith)
+condition_number-range Assertions = (omega arith, omega arith)
+condition_number-range BothParts = (omega arith, omega arith)
+condition_number-range AllReached = (omega arith, omega arith)
+condition_number-range Inclusions = (omega arith, omega arith)
+condition_number-range Keys = (omega arith, omega arith)
+condition_number-range EitherPart = (omega arith, omega arith)
+condition_number-range SomeReached = (omega arith, omega arith)
+
+-- what the lowest failing of the conditions from number n on is
+pub record Lowest (C : Condition → Type 0) (n : ℕ) (o : Option Condition) : Type 0 where
+  pub none : (o ≡ None) ↔ ((j : Condition) → n ≤ condition_number j → C j)
+  pub some : (k : Condition) → (o ≡ Some k) ↔ ((n ≤ condition_number k) × (C k → ⊥) × ((j : Condition) → n ≤ condition_number j → condition_number j < condition_number k → C j))
+
+lowest-none : (C : Condition → Type 0) → Lowest C 9 None
 lowest-none C =
     record {
-      none = (λ e j lo hi. absurd (omega arith), λ h. refl);
-      some = λ n. (λ e. let z : ◌≡◌ {A = ℕ} 0 1 = cc in absurd (omega arith), λ (lo, hi, fails, lower). absurd (omega arith));
+      none = (λ e j lo. absurd (omega (arith, condition_number-range j)), λ h. refl);
+      some = λ k. (λ e. let z : ◌≡◌ {A = ℕ} 0 1 = cc in absurd (omega arith), λ (lo, fails, lower). absurd (omega (arith, condition_number-range k)));
     }
 
 -- one condition more, tested before the others
-lowest-more : (C : ℕ → Type 0) (k : ℕ) (t : Bool) (rest : Option ℕ) → k ≤ 8 → Decides t (C k) → Lowest C (suc k) rest → Lowest C k (cond t rest (Some k))
-lowest-more C k true rest le d r =
-    let here : (j : ℕ) → k ≤ j → (suc k ≤ j → C j) → C j = λ j lo next. ⊎_elim (λ q. subst C (sym q) (d.0 refl)) (λ ne. next (omega arith)) (cases_eq j k) in
+lowest-more : (C : Condition → Type 0) (k : Condition) (t : Bool) (rest : Option Condition) → Decides t (C k) → Lowest C (suc (condition_number k)) rest → Lowest C (condition_number k) (cond t rest (Some k))
+lowest-more C k true rest d r =
+    let here : (j : Condition) → condition_number k ≤ condition_number j → (suc (condition_number k) ≤ condition_number j → C j) → C j = λ j lo next.
+    ⊎_elim (λ q. subst C (sym (condition_number_injective j k q)) (d.0 refl)) (λ ne. next (omega arith)) (cases_eq (condition_number j) (condition_number k)) in
     record {
-      none = (λ e j lo hi. here j lo (λ more. r.none.0 e j more hi), λ h. r.none.1 (λ j lo hi. h j (omega arith) hi));
+      none = (λ e j lo. here j lo (λ more. r.none.0 e j more), λ h. r.none.1 (λ j lo. h j (omega arith)));
       some = λ n. (
-        λ e. let (lo, hi, fails, lower) = (r.some n).0 e in (omega arith, hi, fails, λ j from lt. here j from (λ more. lower j more lt)),
-        λ (lo, hi, fails, lower).
-            let more : suc k ≤ n = ⊎_elim (λ q. absurd (fails (subst C (sym q) (d.0 refl)))) (λ ne. omega arith) (cases_eq n k) in
-            (r.some n).1 (more, hi, fails, λ j from lt. lower j (omega arith) lt),
+        λ e. let (lo, fails, lower) = (r.some n).0 e in (omega arith, fails, λ j from lt. here j from (λ more. lower j more lt)),
+        λ (lo, fails, lower).
+            let more : suc (condition_number k) ≤ condition_number n = ⊎_elim (λ q. absurd (fails (subst C (sym (condition_number_injective n k q)) (d.0 refl)))) (λ ne. omega arith) (cases_eq (condition_number n) (condition_number k)) in
+            (r.some n).1 (more, fails, λ j from lt. lower j (omega arith) lt),
       );
     }
-lowest-more C k false rest le d r =
+lowest-more C k false rest d r =
     let fails-here : C k → ⊥ = λ h. false≢true (d.1 h) in
     record {
-      none = (λ e. let z : ◌≡◌ {A = ℕ} 0 1 = cc in absurd (omega arith), λ h. absurd (fails-here (h k (omega arith) le)));
+      none = (λ e. let z : ◌≡◌ {A = ℕ} 0 1 = cc in absurd (omega arith), λ h. absurd (fails-here (h k (omega arith))));
       some = λ n. (
-        λ e. let q : k ≡ n = cc in (omega arith, omega arith, subst (λ (i : ℕ). C i → ⊥) q fails-here, λ j from lt. absurd (omega arith)),
-        λ (lo, hi, fails, lower). ⊎_elim (λ q. ap Some q) (λ ne. absurd (fails-here (lower k (omega arith) (omega arith)))) (cases_eq k n),
+        λ e. let q : k ≡ n = cc in subst (λ (i : Condition). (condition_number k ≤ condition_number i) × (C i → ⊥) × ((j : Condition) → condition_number k ≤ condition_number j → condition_number j < condition_number i → C j)) q (omega arith, fails-here, λ j from lt. absurd (omega arith)),
+        λ (lo, fails, lower). ⊎_elim (λ q. ap Some (condition_number_injective k n q)) (λ ne. absurd (fails-here (lower k (omega arith) (omega arith)))) (cases_eq (condition_number k) (condition_number n)),
       );
     }
 
-when_from : {P Q : Type 0} (t : Bool) → P → Q → MatchBool t P Q
-when_from true p q = p
-when_from false p q = q
+-- the eight conditions, each on its own
+pub conditions_each : (m : Meaning) (b : Branch) → Conditions m b → (k : Condition) → ConditionHolds m b k
+conditions_each m b h NoContradiction = (h.clash_free, h.none_different_and_equal)
+conditions_each m b h Assertions = h.assertions_held
+conditions_each m b h BothParts = h.both_parts_held
+conditions_each m b h AllReached = h.all_reached_held
+conditions_each m b h Inclusions = h.inclusions_decided
+conditions_each m b h Keys = h.keys_decided
+conditions_each m b h EitherPart = h.either_part_held
+conditions_each m b h SomeReached = h.some_reached_held
 
--- the eight conditions by their numbers
-pub conditions_numbered : (m : Meaning) (b : Branch) → Conditions m b → (k : ℕ) → ConditionNumbered m b k
-conditions_numbered m b h k =
-    when_from (eqb k 1) (h.clash_free, h.none_different_and_equal)
-    (when_from (eqb k 2) h.assertions_held
-    (when_from (eqb k 3) h.both_parts_held
-    (when_from (eqb k 4) h.all_reached_held
-    (when_from (eqb k 5) h.inclusions_decided
-    (when_from (eqb k 6) h.keys_decided
-    (when_from (eqb k 7) h.either_part_held
-    (when_from (eqb k 8) h.some_reached_held tt)))))))
-
-pub conditions_from : (m : Meaning) (b : Branch) → ((k : ℕ) → 1 ≤ k → k ≤ 8 → ConditionNumbered m b k) → Conditions m b
+pub conditions_from : (m : Meaning) (b : Branch) → ((k : Condition) → ConditionHolds m b k) → Conditions m b
 conditions_from m b h =
-    let first = h 1 (omega arith) (omega arith) in
     record {
-      clash_free = first.0;
-      none_different_and_equal = first.1;
-      assertions_held = h 2 (omega arith) (omega arith);
-      both_parts_held = h 3 (omega arith) (omega arith);
-      all_reached_held = h 4 (omega arith) (omega arith);
-      inclusions_decided = h 5 (omega arith) (omega arith);
-      keys_decided = h 6 (omega arith) (omega arith);
-      either_part_held = h 7 (omega arith) (omega arith);
-      some_reached_held = h 8 (omega arith) (omega arith);
+      clash_free = (h NoContradiction).0;
+      none_different_and_equal = (h NoContradiction).1;
+      assertions_held = h Assertions;
+      both_parts_held = h BothParts;
+      all_reached_held = h AllReached;
+      inclusions_decided = h Inclusions;
+      keys_decided = h Keys;
+      either_part_held = h EitherPart;
+      some_reached_held = h SomeReached;
     }
 
 module _ (m : Meaning) (b : Branch) where
@@ -234,7 +260,7 @@ module _ (m : Meaning) (b : Branch) where
   abbrev KeyDecided : Concept → Concept → RolePairs → Individual → Individual → Type 0
   KeyDecided c d pairs x y = ValuesShared m b pairs x y → Held m b (Is (complement c) x) ⊎ (Held m b (Is (complement d) y) ⊎ Equal b.pairs x y)
 
-  decides_values_shared : (pairs : RolePairs) (x y : ℕ) → Decides (every (share_value m b x y) (pair_list pairs)) (ValuesShared m b pairs (individual x) (individual y))
+  decides_values_shared : (pairs : RolePairs) (x y : ℕ) → Decides (list_all (share_value m b x y) (pair_list pairs)) (ValuesShared m b pairs (individual x) (individual y))
   decides_values_shared pairs x y = decides_every (λ p. decides_some_with (λ z. decides_joins p.left x z) (λ z. decides_joins p.right y z) b.individuals) (pair_list pairs)
 
   decides_link : (c d : Concept) (pairs : RolePairs) (x y : ℕ) → Decides (key_kept m b (Link c d pairs) x y) (KeyDecided c d pairs (individual x) (individual y))
@@ -293,27 +319,27 @@ module _ (m : Meaning) (b : Branch) where
       (Decides-like (no_clash m b) clash_free entry_clear decides_entry_clear)
       (Decides-like (no_different m b) (λ h x y lx ly d e. h x lx y ly (d, e)) (λ h x lx y ly (d, e). h x y lx ly d e) decides_different)
 
-  pub lowest_failing-lowest : Lowest (ConditionNumbered m b) 1 (lowest_failing m b)
+  pub lowest_failing-lowest : Lowest (ConditionHolds m b) 1 (lowest_failing m b)
   lowest_failing-lowest =
-      let C = ConditionNumbered m b in
-      lowest-more C 1 (condition1 m b) _ (omega arith) condition1_exact
-      (lowest-more C 2 (condition2 m b) _ (omega arith) condition2_exact
-      (lowest-more C 3 (condition3 m b) _ (omega arith) condition3_exact
-      (lowest-more C 4 (condition4 m b) _ (omega arith) condition4_exact
-      (lowest-more C 5 (condition5 m b) _ (omega arith) condition5_exact
-      (lowest-more C 6 (condition6 m b) _ (omega arith) condition6_exact
-      (lowest-more C 7 (condition7 m b) _ (omega arith) condition7_exact
-      (lowest-more C 8 (condition8 m b) _ (omega arith) condition8_exact
+      let C = ConditionHolds m b in
+      lowest-more C NoContradiction (condition1 m b) _ condition1_exact
+      (lowest-more C Assertions (condition2 m b) _ condition2_exact
+      (lowest-more C BothParts (condition3 m b) _ condition3_exact
+      (lowest-more C AllReached (condition4 m b) _ condition4_exact
+      (lowest-more C Inclusions (condition5 m b) _ condition5_exact
+      (lowest-more C Keys (condition6 m b) _ condition6_exact
+      (lowest-more C EitherPart (condition7 m b) _ condition7_exact
+      (lowest-more C SomeReached (condition8 m b) _ condition8_exact
       (lowest-none C))))))))
 
   pub lowest_failing-none : (lowest_failing m b ≡ None) ↔ Conditions m b
   lowest_failing-none =
-      (λ e. conditions_from m b (lowest_failing-lowest.none.0 e), λ h. lowest_failing-lowest.none.1 (λ k lo hi. conditions_numbered m b h k))
+      (λ e. conditions_from m b (λ k. lowest_failing-lowest.none.0 e k (condition_number-range k).0), λ h. lowest_failing-lowest.none.1 (λ k lo. conditions_each m b h k))
 
-  pub lowest_failing-some : (k : ℕ) → (lowest_failing m b ≡ Some k) ↔ LowestFailing m b k
+  pub lowest_failing-some : (k : Condition) → (lowest_failing m b ≡ Some k) ↔ LowestFailing m b k
   lowest_failing-some k = (
-    λ e. let (lo, hi, fails, lower) = (lowest_failing-lowest.some k).0 e in record { from_one = lo; to_eight = hi; fails = fails; lower_hold = lower },
-    λ h. (lowest_failing-lowest.some k).1 (h.from_one, h.to_eight, h.fails, h.lower_hold),
+    λ e. let (lo, fails, lower) = (lowest_failing-lowest.some k).0 e in record { fails = fails; lower_hold = λ j lt. lower j (condition_number-range j).0 lt },
+    λ h. (lowest_failing-lowest.some k).1 ((condition_number-range k).0, h.fails, λ j lo lt. h.lower_hold j lt),
   )
 
   pub conditions_tested : ConditionsTested m b

@@ -3,10 +3,9 @@ use Rattle.std.proofs.Common.{◌≡◌, ℕ, zero, suc, ◌<◌, ◌≤◌, Boo
 use mathlib.Core.Bool.{and_comm, or_comm, false≢true}
 use Rattle.std.proofs.lemmas.Bool.{cases_eq, cond_both, ltb-true, ltb-false}
 use Rattle.std.proofs.lemmas.Bool.Decides.{Decides-and, Decides-or, Decides-like, Decides-below_and, Decides-below_or}
+use Rattle.std.specs.List.{list_all, list_any}
 use Rattle.rows.specs.Rows.{row_at}
-use Rattle.calculus.specs.Branches.{any}
 use Rattle.calculus.specs.Review.{all_under, some_under, least_under}
-use Rattle.calculus.specs.States.{every}
 
 pub decides_true : (r : Bool) → Decides r (r ≡ true)
 decides_true r = (λ e. e, λ e. e)
@@ -29,10 +28,10 @@ pub decides_some_under : {test : ℕ → Bool} {P : ℕ → Type 0} → ((k : �
 decides_some_under {test} {P} each = Decides-below_or test P (some_under test) each refl (λ n. or_comm (some_under test n) (test n))
 
 -- each row of a list, and some
-pub decides_every : {X : Type 0} {test : X → Bool} {P : X → Type 0} → ((x : X) → Decides (test x) (P x)) → (xs : List X) → Decides (every test xs) ((n : ℕ) (x : X) → row_at xs n ≡ Ok x → P x)
+pub decides_every : {X : Type 0} {test : X → Bool} {P : X → Type 0} → ((x : X) → Decides (test x) (P x)) → (xs : List X) → Decides (list_all test xs) ((n : ℕ) (x : X) → row_at xs n ≡ Ok x → P x)
 decides_every each [] = (λ _ n x e. let z : ◌≡◌ {A = ℕ} 0 1 = cc in absurd (omega arith), λ _. refl)
 decides_every {X} {test} {P} each (y ∷ ys) =
-    Decides-like (test y && every test ys) join part (Decides-and (test y) (every test ys) (each y) (decides_every each ys))
+    Decides-like (test y && list_all test ys) join part (Decides-and (test y) (list_all test ys) (each y) (decides_every each ys))
   where
     join : P y × ((n : ℕ) (x : X) → row_at ys n ≡ Ok x → P x) → (n : ℕ) (x : X) → row_at (y ∷ ys) n ≡ Ok x → P x
     join h zero x e = let q : y ≡ x = cc in subst P q h.0
@@ -41,10 +40,10 @@ decides_every {X} {test} {P} each (y ∷ ys) =
     part : ((n : ℕ) (x : X) → row_at (y ∷ ys) n ≡ Ok x → P x) → P y × ((n : ℕ) (x : X) → row_at ys n ≡ Ok x → P x)
     part h = (h 0 y refl, λ n x e. h (suc n) x e)
 
-pub decides_any : {X : Type 0} {test : X → Bool} {P : X → Type 0} → ((x : X) → Decides (test x) (P x)) → (xs : List X) → Decides (any test xs) ((n : ℕ) × (x : X) × (row_at xs n ≡ Ok x) × P x)
+pub decides_any : {X : Type 0} {test : X → Bool} {P : X → Type 0} → ((x : X) → Decides (test x) (P x)) → (xs : List X) → Decides (list_any test xs) ((n : ℕ) × (x : X) × (row_at xs n ≡ Ok x) × P x)
 decides_any each [] = (λ e. absurd (false≢true e), λ h. let q = h.2 in let z : ◌≡◌ {A = ℕ} 0 1 = cc in absurd (omega arith))
 decides_any {X} {test} {P} each (y ∷ ys) =
-    Decides-like (test y || any test ys) join part (Decides-or (test y) (any test ys) (each y) (decides_any each ys))
+    Decides-like (test y || list_any test ys) join part (Decides-or (test y) (list_any test ys) (each y) (decides_any each ys))
   where
     join : P y ⊎ ((n : ℕ) × (x : X) × (row_at ys n ≡ Ok x) × P x) → (n : ℕ) × (x : X) × (row_at (y ∷ ys) n ≡ Ok x) × P x
     join (inl h) = (0, y, refl, h)

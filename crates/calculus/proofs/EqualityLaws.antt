@@ -43,10 +43,10 @@ merged_le u v x =
     (λ t. ⊎_elim (λ e. omega (arith, eqb-true x u e)) (λ e. omega (arith, eqb-true x v e)) (or_cases (eqb x u) (eqb x v) t))
     (λ _. omega arith)
 
-merged-left : (u v : ℕ) → merged u v u ≡ min u v
+pub merged-left : (u v : ℕ) → merged u v u ≡ min u v
 merged-left u v = cond-true (eqb u u || eqb u v) (min u v) u (or_left (eqb u u) (eqb u v) (eq-eqb u u refl))
 
-merged_right : (u v : ℕ) → merged u v v ≡ min u v
+pub merged_right : (u v : ℕ) → merged u v v ≡ min u v
 merged_right u v = cond-true (eqb v u || eqb v v) (min u v) v (or_right (eqb v u) (eqb v v) (eq-eqb v v refl))
 
 -- heads only fall

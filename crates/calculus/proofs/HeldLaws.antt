@@ -1,6 +1,7 @@
 -- What is found held is held, and stays held as rows are appended.
-use Rattle.std.proofs.Common.{◌≡◌, ℕ, zero, suc, Bool, true, ◌&&◌, eqb, List, [], ◌∷◌, ◌++◌, Ok, sym, refl, ap, ◌∙◌, subst, inl, inr, ⊎_elim, arith}
+use Rattle.std.proofs.Common.{◌≡◌, ℕ, Bool, true, ◌&&◌, eqb, List, ◌++◌, Ok, sym, refl, ap, ◌∙◌, subst, inl, inr, ⊎_elim}
 use Rattle.std.proofs.lemmas.Bool.{and_from, and_parts, eq-eqb, eqb-true, false≢true, or_cases, or_left, or_right}
+use Rattle.std.specs.List.{list_any}
 use Rattle.rows.specs.Rows.{row_at}
 use Rattle.kb.specs.declared.axioms.Assertion.{Assertion}
 use Rattle.kb.specs.declared.axioms.Assertion.TheVariants.{Is, Joins, Same, Different, Unlisted}
@@ -10,23 +11,19 @@ use Rattle.kb.specs.Meanings.{Meaning}
 use Rattle.calculus.specs.declared.row_kinds.ConceptRow.{ConceptRow}
 use Rattle.calculus.specs.declared.row_kinds.PairRow.{PairRow}
 use Rattle.calculus.specs.declared.row_kinds.PairRow.TheVariants.{Same as SameRow, Different as DifferentRow}
-use Rattle.calculus.specs.Branches.{Branch, Equal, any, concept_row_holds, equal, held, pair_row_holds, role_holds, role_row_holds}
+use Rattle.calculus.specs.Branches.{Branch, Equal, concept_row_holds, equal, held, pair_row_holds, role_holds, role_row_holds}
 use Rattle.calculus.specs.Holding.{EitherOrder, Held}
 use Rattle.calculus.specs.HeldLaws.{Extends, HeldMeans, HeldStays}
+use Rattle.calculus.proofs.DecidingLaws.{decides_any, decides_true}
 use Rattle.calculus.proofs.EqualityLaws.{Equal-append, Equal-from-equal, equal-from-Equal, row_at-append-found}
 
 -- a test that passes at some item passes at the item of some number
 pub any_found :
-    {A : Type 0} (test : A → Bool) (xs : List A) → any test xs ≡ true → (n : ℕ) × (x : A) × (row_at xs n ≡ Ok x) × (test x ≡ true)
-any_found test [] e = absurd (false≢true e)
-any_found test (x ∷ xs) e =
-    ⊎_elim (λ t. (0, x, refl, t)) (λ t. let r = any_found test xs t in (suc r.0, r.1, r.2, r.3))
-    (or_cases (test x) (any test xs) e)
+    {A : Type 0} (test : A → Bool) (xs : List A) → list_any test xs ≡ true → (n : ℕ) × (x : A) × (row_at xs n ≡ Ok x) × (test x ≡ true)
+any_found test xs = (decides_any (λ x. decides_true (test x)) xs).0
 
-pub any-from : {A : Type 0} (test : A → Bool) (xs : List A) (n : ℕ) (x : A) → row_at xs n ≡ Ok x → test x ≡ true → any test xs ≡ true
-any-from test [] n x e t = let z : ◌≡◌ {A = ℕ} 0 1 = cc in absurd (omega arith)
-any-from test (y ∷ ys) zero x e t = let p : y ≡ x = cc in or_left (test y) (any test ys) (ap test p ∙ t)
-any-from test (y ∷ ys) (suc n) x e t = or_right (test y) (any test ys) (any-from test ys n x e t)
+pub any-from : {A : Type 0} (test : A → Bool) (xs : List A) (n : ℕ) (x : A) → row_at xs n ≡ Ok x → test x ≡ true → list_any test xs ≡ true
+any-from test xs n x e t = (decides_any (λ y. decides_true (test y)) xs).1 (n, x, e, t)
 
 module _ (m : Meaning) (b : Branch) where
   both-from :
@@ -96,7 +93,7 @@ module _ (m : Meaning) (b : Branch) where
       (λ t. let r = any_found (concept_row_holds m b c x) b.concepts t in
       let p = conceptRow-means c x r.1 r.3 in
       inr (r.0, r.1, r.2, p.0, p.1))
-      (or_cases (eqb c.0 0) (any (concept_row_holds m b c x) b.concepts) e)
+      (or_cases (eqb c.0 0) (list_any (concept_row_holds m b c x) b.concepts) e)
   held-means (Joins r x y) e =
       let f = any_found (role_row_holds m b r x y) b.roles e in
       let w = f.1 in
@@ -136,5 +133,5 @@ module _ (m : Meaning) (b b' : Branch) (more : Extends b b') where
   pub held_stays : (a : Assertion) → held m b a ≡ true → held m b' a ≡ true
   held_stays a e = held-from m b' a (Held_stays a (held-means m b a e))
 
-pub held-means-held : HeldMeans × HeldStays
-held-means-held = (record { means = held-means; from = held-from }, λ m b b' more a. held_stays m b b' more a)
+pub held_means_held : HeldMeans × HeldStays
+held_means_held = (record { means = held-means; from = held-from }, λ m b b' more a. held_stays m b b' more a)

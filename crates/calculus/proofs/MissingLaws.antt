@@ -1,6 +1,8 @@
 -- Of facts, those that are missing: they are of the facts, none is held before it is written, and every fact is held afterwards.
-use Rattle.std.proofs.Common.{◌≡◌, ℕ, zero, suc, min, Bool, true, false, ◌&&◌, ◌||◌, eqb, List, [], ◌∷◌, ◌++◌, sym, refl, ap, ◌∙◌, subst, ⊎_elim, arith}
-use Rattle.std.proofs.lemmas.Bool.{and_from, cases_Bool, cond-true, eq-eqb, or_left, or_right}
+use Rattle.std.proofs.Common.{◌≡◌, ℕ, zero, suc, Bool, true, false, ◌&&◌, ◌||◌, eqb, List, [], ◌∷◌, ◌++◌, sym, refl, ap, ◌∙◌, subst, ⊎_elim, arith}
+use Rattle.std.proofs.lemmas.Bool.{and_from, cases_Bool, eq-eqb, or_left, or_right}
+use Rattle.std.proofs.lemmas.List.Folds.{list_any-append}
+use Rattle.std.specs.List.{list_any}
 use Rattle.kb.specs.declared.axioms.Assertion.{Assertion}
 use Rattle.kb.specs.declared.axioms.Assertion.TheVariants.{Is, Joins, Same, Different, Unlisted}
 use Rattle.kb.specs.declared.names.Individual.{Individual}
@@ -9,26 +11,20 @@ use Rattle.calculus.specs.declared.row_kinds.ConceptRow.{ConceptRow}
 use Rattle.calculus.specs.declared.row_kinds.PairRow.{PairRow}
 use Rattle.calculus.specs.declared.row_kinds.PairRow.TheVariants.{Same as SameRow, Different as DifferentRow}
 use Rattle.calculus.specs.declared.row_kinds.RoleRow.{RoleRow}
-use Rattle.calculus.specs.Branches.{Branch, any, concept_row_holds, equal, head_of, heads_from, held, join_heads, merged, pair_row_holds, role_row_holds}
+use Rattle.calculus.specs.Branches.{Branch, concept_row_holds, equal, head_of, heads_from, held, join_heads, pair_row_holds, role_row_holds}
 use Rattle.calculus.specs.HeldLaws.{HeldStays}
 use Rattle.calculus.specs.StepLaws.{Among, appended, listed, missing}
+use Rattle.calculus.proofs.EqualityLaws.{merged-left, merged_right}
 use Rattle.calculus.proofs.WriteLaws.{appended_cons, appended_extends, appended-none, missing-held, missing-more}
 
 -- the last item passes
-any_last : {A : Type 0} (test : A → Bool) (xs : List A) (x : A) → test x ≡ true → any test (xs ++ x ∷ []) ≡ true
-any_last test [] x h = or_left (test x) false h
-any_last test (y ∷ ys) x h = or_right (test y) (any test (ys ++ x ∷ [])) (any_last test ys x h)
+any_last : {A : Type 0} (test : A → Bool) (xs : List A) (x : A) → test x ≡ true → list_any test (xs ++ x ∷ []) ≡ true
+any_last test xs x h = list_any-append test xs (x ∷ []) ∙ or_right (list_any test xs) (test x || false) (or_left (test x) false h)
 
 -- the heads after one pair row more
 pub heads_from_last : (head : ℕ → ℕ) (ps : List PairRow) (p : PairRow) (z : ℕ) → heads_from head (ps ++ p ∷ []) z ≡ join_heads (heads_from head ps) p z
 heads_from_last head [] p z = refl
 heads_from_last head (q ∷ qs) p z = heads_from_last (join_heads head q) qs p z
-
-merged-one : (u v : ℕ) → merged u v u ≡ min u v
-merged-one u v = cond-true (eqb u u || eqb u v) _ _ (or_left (eqb u u) (eqb u v) (eq-eqb u u refl))
-
-merged_other : (u v : ℕ) → merged u v v ≡ min u v
-merged_other u v = cond-true (eqb v u || eqb v v) _ _ (or_right (eqb v u) (eqb v v) (eq-eqb v v refl))
 
 equal-self : (pairs : List PairRow) (x : Individual) → equal pairs x x ≡ true
 equal-self pairs x = eq-eqb (head_of pairs x.0) (head_of pairs x.0) refl
@@ -38,8 +34,8 @@ unfolding head_of
 equal_last pairs x y =
     let u = heads_from (λ z. z) pairs x.0 in
     let v = heads_from (λ z. z) pairs y.0 in
-    let e = heads_from_last (λ z. z) pairs (SameRow x y) x.0 ∙ merged-one u v in
-    let f = heads_from_last (λ z. z) pairs (SameRow x y) y.0 ∙ merged_other u v in
+    let e = heads_from_last (λ z. z) pairs (SameRow x y) x.0 ∙ merged-left u v in
+    let f = heads_from_last (λ z. z) pairs (SameRow x y) y.0 ∙ merged_right u v in
     eq-eqb (heads_from (λ z. z) (pairs ++ SameRow x y ∷ []) x.0) (heads_from (λ z. z) (pairs ++ SameRow x y ∷ []) y.0) (e ∙ sym f)
 
 module _ (m : Meaning) where
@@ -48,7 +44,7 @@ module _ (m : Meaning) where
   written_held (Is c x) b h =
       let b' = appended (Is c x ∷ []) b in
       let row : ConceptRow = record { concept = c; individual = x } in
-      or_right (eqb c.0 0) (any (concept_row_holds m b' c x) b'.concepts)
+      or_right (eqb c.0 0) (list_any (concept_row_holds m b' c x) b'.concepts)
       (any_last (concept_row_holds m b' c x) b.concepts row
       (and_from (eqb c.0 c.0) (equal b'.pairs x x) (eq-eqb c.0 c.0 refl) (equal-self b'.pairs x)))
   written_held (Joins r x y) b h =

@@ -1,13 +1,14 @@
 -- The order of refusals of a step, and which rule an accepted step carried out.
 use Rattle.std.proofs.Common.{◌≡◌, ℕ, zero, suc, ◌<◌, ◌≤◌, Bool, true, false, ltb, leb, ◌⊎◌, List, [], ◌∷◌, Ok, Err, Result, sym, refl, ap, ◌∙◌, subst, inl, inr, arith}
 use Rattle.std.proofs.lemmas.Bool.{and_left, and_right, both_ways, cond_both, cond-false, cond-true, le-leb, lt-leb, lt-ltb}
+use Rattle.std.specs.List.{list_all}
 use Rattle.kb.specs.Meanings.{Meaning}
 use Rattle.calculus.specs.declared.fault.StepFault.{StepFault}
 use Rattle.calculus.specs.declared.fault.StepFault.TheVariants.{Changed, Closed, Row, Range, Kind, Premise, Full}
 use Rattle.calculus.specs.declared.step.Step.{Step}
 use Rattle.calculus.specs.Branches.{held}
 use Rattle.calculus.specs.Playing.{Played, close, extend, last_of, left, perform, play, ready}
-use Rattle.calculus.specs.States.{State, branch, every, fits}
+use Rattle.calculus.specs.States.{State, branch, fits}
 use Rattle.calculus.specs.StepLaws.{Among, NeedMissing, NeedsHeld, Ready, RefusedInOrder}
 use Rattle.calculus.specs.Table.{Rule, and_then, rule}
 use Rattle.calculus.proofs.StepFaults.{Faults, close_faults, extend_faults, from_table, is_full}
@@ -31,10 +32,10 @@ full_or_ok : {X : Type 0} (r : Result X StepFault) → Faults is_full r → (r �
 full_or_ok (Ok x) h = inr (x, refl)
 full_or_ok (Err f) h = inl (ap Err (full_only f h))
 
-every-fails : {A : Type 0} (test : A → Bool) (xs : List A) (x : A) → Among x xs → test x ≡ false → every test xs ≡ false
+every-fails : {A : Type 0} (test : A → Bool) (xs : List A) (x : A) → Among x xs → test x ≡ false → list_all test xs ≡ false
 every-fails test [] x (n, e) h = let z : ◌≡◌ {A = ℕ} 0 1 = cc in absurd (omega arith)
-every-fails test (y ∷ ys) x (zero, e) h = let p : y ≡ x = cc in and_left (test y) (every test ys) (ap test p ∙ h)
-every-fails test (y ∷ ys) x (suc n, e) h = and_right (test y) (every test ys) (every-fails test ys x (n, e) h)
+every-fails test (y ∷ ys) x (zero, e) h = let p : y ≡ x = cc in and_left (test y) (list_all test ys) (ap test p ∙ h)
+every-fails test (y ∷ ys) x (suc n, e) h = and_right (test y) (list_all test ys) (every-fails test ys x (n, e) h)
 
 -- a refused step changes nothing
 pub refused_changes_nothing : (s : State) (r : Result Played StepFault) (f : StepFault) → r ≡ Err f → left s r ≡ s
@@ -66,7 +67,7 @@ module _ (m : Meaning) (scratch : ℕ) (t : Step) (s : State) where
   pub play-carried : Ready m scratch s → (q : Rule) → rule m s.numbers.individuals t ≡ Ok q → NeedsHeld m s q → s.numbers.steps < 1000000 → play m scratch t s ≡ carried m scratch t s q
   play-carried r q e h l =
       play-ruled r (Ok q) e
-      ∙ cond-true (every (held m (branch s)) q.needs) _ _ (every-from (held m (branch s)) q.needs h)
+      ∙ cond-true (list_all (held m (branch s)) q.needs) _ _ (every-from (held m (branch s)) q.needs h)
       ∙ cond-true (ltb s.numbers.steps 1000000) _ _ (lt-ltb s.numbers.steps 1000000 l)
 
   carried_faults : (q : Rule) → Faults is_full (carried m scratch t s q)
@@ -146,13 +147,13 @@ module _ (m : Meaning) (scratch : ℕ) (t : Step) (s : State) where
   unfolding NeedNotHeld
   to_premise (r, (q, e, h)) =
       play-ruled r (Ok q) e
-      ∙ cond-false (every (held m (branch s)) q.needs) _ _ (every-fails (held m (branch s)) q.needs h.0 h.1 h.2)
+      ∙ cond-false (list_all (held m (branch s)) q.needs) _ _ (every-fails (held m (branch s)) q.needs h.0 h.1 h.2)
 
   -- with every need held it is full or accepted
   pub full-or-accepted : Ready m scratch s → (q : Rule) → rule m s.numbers.individuals t ≡ Ok q → NeedsHeld m s q → (play m scratch t s ≡ Err Full) ⊎ ((p : Played) × (play m scratch t s ≡ Ok p))
   full-or-accepted r q e h =
       subst (λ a. (a ≡ Err Full) ⊎ ((p : Played) × (a ≡ Ok p)))
-      (sym (play-ruled r (Ok q) e ∙ cond-true (every (held m (branch s)) q.needs) _ _ (every-from (held m (branch s)) q.needs h)))
+      (sym (play-ruled r (Ok q) e ∙ cond-true (list_all (held m (branch s)) q.needs) _ _ (every-from (held m (branch s)) q.needs h)))
       (cond_both (ltb s.numbers.steps 1000000) (carried m scratch t s q) (Err Full) (λ a. (a ≡ Err Full) ⊎ ((p : Played) × (a ≡ Ok p)))
       (λ _. full_or_ok (carried m scratch t s q) (carried_faults q))
       (λ _. inl refl))

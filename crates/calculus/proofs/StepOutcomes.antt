@@ -1,32 +1,31 @@
 -- The ways in which a step can come out, in the order in which they are looked at.
-use Rattle.std.proofs.Common.{◌≡◌, ℕ, zero, suc, ◌<◌, ◌≤◌, Bool, true, false, cond, ltb, leb, List, [], ◌∷◌, Ok, Err, Result, sym, refl, ap, ◌∙◌, ⊎_elim, arith}
-use Rattle.std.proofs.lemmas.Bool.{and_cases, and_parts, cond_both, leb-false, leb-true, ltb-false, ltb-true}
+use Rattle.std.proofs.Common.{◌≡◌, ℕ, suc, ◌<◌, ◌≤◌, Bool, true, false, cond, ltb, leb, List, [], ◌∷◌, Ok, Err, Result, refl, ⊎_elim, arith}
+use Rattle.std.proofs.lemmas.Bool.{and_cases, cond_both, leb-false, leb-true, ltb-false, ltb-true}
+use Rattle.std.specs.List.{list_all}
 use Rattle.kb.specs.Meanings.{Meaning}
 use Rattle.calculus.specs.declared.fault.StepFault.{StepFault}
 use Rattle.calculus.specs.declared.fault.StepFault.TheVariants.{Changed, Closed, Premise, Full}
 use Rattle.calculus.specs.declared.step.Step.{Step}
 use Rattle.calculus.specs.Branches.{held}
 use Rattle.calculus.specs.Playing.{Played, close, extend, last_of, perform, play}
-use Rattle.calculus.specs.States.{State, branch, every, fits}
+use Rattle.calculus.specs.States.{State, branch, fits}
 use Rattle.calculus.specs.StepLaws.{Among, NeedMissing, NeedsHeld, Ready}
 use Rattle.calculus.specs.Table.{Rule, and_then, rule}
+use Rattle.calculus.proofs.DecidingLaws.{decides_every, decides_true}
 use Rattle.calculus.proofs.StepFaults.{Faults, from_table, rule_faults}
 
 module _ {A : Type 0} (test : A → Bool) where
   -- a test of every item, and of one
-  pub every_among : (xs : List A) → every test xs ≡ true → (x : A) → Among x xs → test x ≡ true
-  every_among [] h x (n, e) = let z : ◌≡◌ {A = ℕ} 0 1 = cc in absurd (omega arith)
-  every_among (y ∷ ys) h x (zero, e) = let p : y ≡ x = cc in ap test (sym p) ∙ (and_parts (test y) (every test ys) h).0
-  every_among (y ∷ ys) h x (suc n, e) = every_among ys (and_parts (test y) (every test ys) h).1 x (n, e)
+  pub every_among : (xs : List A) → list_all test xs ≡ true → (x : A) → Among x xs → test x ≡ true
+  every_among xs h x (n, e) = (decides_every (λ y. decides_true (test y)) xs).0 h n x e
 
-  pub every-from : (xs : List A) → ((x : A) → Among x xs → test x ≡ true) → every test xs ≡ true
-  every-from [] h = refl
-  every-from (y ∷ ys) h = rw (h y (0, refl)) (every-from ys (λ x i. h x (suc i.0, i.1)))
+  pub every-from : (xs : List A) → ((x : A) → Among x xs → test x ≡ true) → list_all test xs ≡ true
+  every-from xs h = (decides_every (λ y. decides_true (test y)) xs).1 (λ n x e. h x (n, e))
 
-  pub every-not : (xs : List A) → every test xs ≡ false → (x : A) × Among x xs × (test x ≡ false)
+  pub every-not : (xs : List A) → list_all test xs ≡ false → (x : A) × Among x xs × (test x ≡ false)
   every-not [] h = let z : ◌≡◌ {A = ℕ} 0 1 = cc in absurd (omega arith)
   every-not (y ∷ ys) h =
-      ⊎_elim (λ e. (y, (0, refl), e)) (λ e. let r = every-not ys e in (r.0, (suc r.1.0, r.1.1), r.2)) (and_cases (test y) (every test ys) h)
+      ⊎_elim (λ e. (y, (0, refl), e)) (λ e. let r = every-not ys e in (r.0, (suc r.1.0, r.1.1), r.2)) (and_cases (test y) (list_all test ys) h)
 
 module _ (m : Meaning) (scratch : ℕ) (t : Step) (s : State) where
   -- what a rule comes to, once nothing else refuses
@@ -44,7 +43,7 @@ module _ (m : Meaning) (scratch : ℕ) (t : Step) (s : State) where
 
   performed : Ready m scratch s → (q : Rule) → rule m s.numbers.individuals t ≡ Ok q → Outcome (perform m s q)
   performed r q e =
-      cond_both (every (held m (branch s)) q.needs) (cond (ltb s.numbers.steps 1000000) (carried q) (Err Full)) (Err Premise) Outcome
+      cond_both (list_all (held m (branch s)) q.needs) (cond (ltb s.numbers.steps 1000000) (carried q) (Err Full)) (Err Premise) Outcome
       (λ h. cond_both (ltb s.numbers.steps 1000000) (carried q) (Err Full) Outcome
       (λ l. carries r q e (every_among (held m (branch s)) q.needs h) (ltb-true s.numbers.steps 1000000 l))
       (λ l. late r q e (every_among (held m (branch s)) q.needs h) (ltb-false s.numbers.steps 1000000 l)))

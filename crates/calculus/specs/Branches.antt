@@ -1,5 +1,6 @@
 -- A branch of a tableau: rows and individuals; which individuals are equal on it, and what it holds.
 use Rattle.std.specs.Prelude.{◌≡◌, ℕ, min, Bool, false, cond, ◌&&◌, ◌||◌, List, [], ◌∷◌, Ok, ◌==◌}
+use Rattle.std.specs.List.{list_any}
 use Rattle.rows.specs.Rows.{row_at}
 use Rattle.kb.specs.declared.axioms.Assertion.{Assertion}
 use Rattle.kb.specs.declared.axioms.Assertion.TheVariants.{Is, Joins, Same, Different, Unlisted}
@@ -47,11 +48,6 @@ head_of pairs = heads_from (λ x. x) pairs
 abbrev pub equal : List PairRow → Individual → Individual → Bool
 equal pairs x y = head_of pairs x.0 == head_of pairs y.0
 
--- A test passes at some item of a list.
-abbrev pub any : {A : Type 0} → (A → Bool) → List A → Bool
-any test [] = false
-any test (x ∷ xs) = test x || any test xs
-
 -- The role of a row holds the role that is asked for: over a base, a role holds itself.
 abbrev pub role_holds : Meaning → Role → Role → Bool
 role_holds m r s = r.0 == s.0
@@ -72,8 +68,8 @@ module _ (m : Meaning) (b : Branch) where
 
   -- What a branch holds. Concept 0 is held of everything; "same" means equal; an unlisted assertion is never held.
   abbrev pub held : Assertion → Bool
-  held (Is c x) = c.0 == 0 || any (concept_row_holds c x) b.concepts
-  held (Joins r x y) = any (role_row_holds r x y) b.roles
+  held (Is c x) = c.0 == 0 || list_any (concept_row_holds c x) b.concepts
+  held (Joins r x y) = list_any (role_row_holds r x y) b.roles
   held (Same x y) = equal b.pairs x y
-  held (Different x y) = any (pair_row_holds x y) b.pairs
+  held (Different x y) = list_any (pair_row_holds x y) b.pairs
   held (Unlisted kind) = false

@@ -1,5 +1,5 @@
 -- The eight conditions of review in words: what is held of individuals of the sheet, and which are equal.
-use Rattle.std.specs.Prelude.{◌≡◌, ℕ, ◌+◌, ◌*◌, ◌<◌, ◌≤◌, true, false, ◌⊎◌, ◌↔◌, length, Some, None, Ok, MatchBool, ◌==◌}
+use Rattle.std.specs.Prelude.{◌≡◌, ℕ, ◌+◌, ◌*◌, ◌<◌, true, false, ◌⊎◌, ◌↔◌, length, Some, None, Ok}
 use Rattle.rows.specs.Rows.{row_at}
 use Rattle.kb.specs.declared.axioms.Assertion.{Assertion}
 use Rattle.kb.specs.declared.axioms.Assertion.TheVariants.{Is, Joins, Different}
@@ -14,7 +14,10 @@ use Rattle.kb.specs.declared.names.Role.{Role}
 use Rattle.kb.specs.Meanings.{Meaning}
 use Rattle.kb.specs.Names.{complement}
 use Rattle.kb.specs.Numbers.{pair_list}
+use Rattle.calculus.specs.declared.review.Condition.{Condition}
+use Rattle.calculus.specs.declared.review.Condition.TheVariants.{NoContradiction, Assertions, BothParts, AllReached, Inclusions, Keys, EitherPart, SomeReached}
 use Rattle.calculus.specs.Branches.{Branch, Equal}
+use Rattle.calculus.specs.Faults.{condition_number}
 use Rattle.calculus.specs.Holding.{Held}
 use Rattle.calculus.specs.Review.{concept, blocked, condition1, condition2, condition3, condition4, condition5, condition6, condition7, condition8, lowest_failing}
 
@@ -83,17 +86,16 @@ module _ (m : Meaning) (b : Branch) where
       (k : ℕ) (r : Role) (d : Concept) (x : Individual) → row_at m.entries k ≡ Ok (SomeEntry r d) → OnSheet x → NotBlocked x
       → Held m b (Is (concept (2 * k)) x) → (y : Individual) × OnSheet y × Held m b (Joins r x y) × Held m b (Is d y)
 
-  -- The condition of a number; a number that is none of the eight asks nothing.
-  abbrev pub ConditionNumbered : ℕ → Type 0
-  ConditionNumbered k =
-      MatchBool (k == 1) (NoClash × NoneDifferentAndEqual)
-      (MatchBool (k == 2) AssertionsHeld
-      (MatchBool (k == 3) BothPartsHeld
-      (MatchBool (k == 4) AllReachedHeld
-      (MatchBool (k == 5) InclusionsDecided
-      (MatchBool (k == 6) KeysDecided
-      (MatchBool (k == 7) EitherPartHeld
-      (MatchBool (k == 8) SomeReachedHeld (Unit {0}))))))))
+  -- What each condition says.
+  abbrev pub ConditionHolds : Condition → Type 0
+  ConditionHolds NoContradiction = NoClash × NoneDifferentAndEqual
+  ConditionHolds Assertions = AssertionsHeld
+  ConditionHolds BothParts = BothPartsHeld
+  ConditionHolds AllReached = AllReachedHeld
+  ConditionHolds Inclusions = InclusionsDecided
+  ConditionHolds Keys = KeysDecided
+  ConditionHolds EitherPart = EitherPartHeld
+  ConditionHolds SomeReached = SomeReachedHeld
 
 -- The eight conditions.
 pub record Conditions (m : Meaning) (b : Branch) : Type 0 where
@@ -117,11 +119,9 @@ pub record Conditions (m : Meaning) (b : Branch) : Type 0 where
   pub some_reached_held : SomeReachedHeld m b
 
 -- Condition k fails, and those with lower numbers hold.
-pub record LowestFailing (m : Meaning) (b : Branch) (k : ℕ) : Type 0 where
-  pub from_one : 1 ≤ k
-  pub to_eight : k ≤ 8
-  pub fails : ConditionNumbered m b k → ⊥
-  pub lower_hold : (j : ℕ) → 1 ≤ j → j < k → ConditionNumbered m b j
+pub record LowestFailing (m : Meaning) (b : Branch) (k : Condition) : Type 0 where
+  pub fails : ConditionHolds m b k → ⊥
+  pub lower_hold : (j : Condition) → condition_number j < condition_number k → ConditionHolds m b j
 
 -- Each test of review passes exactly where its condition holds, and review names the lowest that fails.
 pub record ConditionsTested (m : Meaning) (b : Branch) : Type 0 where
@@ -136,7 +136,7 @@ pub record ConditionsTested (m : Meaning) (b : Branch) : Type 0 where
   -- No condition fails exactly where all eight hold.
   pub none_failing : (lowest_failing m b ≡ None) ↔ Conditions m b
   -- Condition k is the lowest that fails exactly where it fails and those before it hold.
-  pub lowest_fails : (k : ℕ) → (lowest_failing m b ≡ Some k) ↔ LowestFailing m b k
+  pub lowest_fails : (k : Condition) → (lowest_failing m b ≡ Some k) ↔ LowestFailing m b k
 
 -- Review is exact, for every base and branch.
 abbrev pub ReviewedExactly : Type 0

@@ -13,6 +13,7 @@ use Rattle.kb.specs.declared.statement.Statement.TheVariants.{Key as KeyStatemen
 use Rattle.kb.specs.Meanings.{Meaning}
 use Rattle.kb.specs.Questions.{asking}
 use Rattle.ledger.specs.Books.{unused}
+use Rattle.calculus.specs.declared.review.Condition.TheVariants.{Assertions, Inclusions, Keys}
 use Rattle.calculus.specs.declared.review.Finding.{Finding}
 use Rattle.calculus.specs.declared.review.Finding.TheVariants.{Closed, Open}
 use Rattle.calculus.specs.declared.review.ReviewFault.{ReviewFault}
@@ -142,18 +143,18 @@ cases =
     ∷ record {
       base = one_individual;
       lines = Both (concept 2) (individual 0) ∷ SomeStep (concept 4) (individual 0) ∷ Take 1 ∷ [];
-      outcome = record { refusals = (8 ∷ []) ∷ (9 ∷ []) ∷ (7 ∷ 1 ∷ []) ∷ []; steps = 0; concept_rows = 0; finding = Err (Condition 2) };
+      outcome = record { refusals = (8 ∷ []) ∷ (9 ∷ []) ∷ (7 ∷ 1 ∷ []) ∷ []; steps = 0; concept_rows = 0; finding = Err (Condition Assertions) };
     }
     ∷ record {
       base = one_individual;
       lines = Take 0 ∷ [];
-      outcome = record { refusals = [] ∷ []; steps = 1; concept_rows = 1; finding = Err (Condition 5) };
+      outcome = record { refusals = [] ∷ []; steps = 1; concept_rows = 1; finding = Err (Condition Inclusions) };
     }
     -- the right side of the cut is held already, so closing the left side leaves one concept row
     ∷ record {
       base = one_individual;
       lines = Take 0 ∷ Cut (concept 3) (individual 0) ∷ Clash (concept 3) (individual 0) ∷ [];
-      outcome = record { refusals = [] ∷ [] ∷ [] ∷ []; steps = 3; concept_rows = 1; finding = Err (Condition 5) };
+      outcome = record { refusals = [] ∷ [] ∷ [] ∷ []; steps = 3; concept_rows = 1; finding = Err (Condition Inclusions) };
     }
     -- the narrower key follows
     ∷ record {
@@ -169,7 +170,7 @@ cases =
       lines =
           Take 0 ∷ Take 1 ∷ Take 2 ∷ Cut (concept 2) (individual 0) ∷ Key 0 (individual 0) (individual 1) (lent (individual 2 ∷ []))
           ∷ Apart (individual 0) (individual 1) ∷ Apart (individual 0) (individual 1) ∷ [];
-      outcome = record { refusals = [] ∷ [] ∷ [] ∷ [] ∷ [] ∷ [] ∷ (9 ∷ []) ∷ []; steps = 6; concept_rows = 1; finding = Err (Condition 6) };
+      outcome = record { refusals = [] ∷ [] ∷ [] ∷ [] ∷ [] ∷ [] ∷ (9 ∷ []) ∷ []; steps = 6; concept_rows = 1; finding = Err (Condition Keys) };
     }
     -- individual 2 is blocked by 1 no longer once it holds what 1 does not: no blocker is remembered
     ∷ record {
@@ -177,7 +178,7 @@ cases =
       lines =
           Take 0 ∷ Include 0 (individual 0) ∷ SomeStep (concept 4) (individual 0) ∷ Include 0 (individual 1) ∷ SomeStep (concept 4) (individual 1)
           ∷ Cut (concept 6) (individual 2) ∷ [];
-      outcome = record { refusals = [] ∷ [] ∷ [] ∷ [] ∷ [] ∷ [] ∷ []; steps = 6; concept_rows = 6; finding = Err (Condition 5) };
+      outcome = record { refusals = [] ∷ [] ∷ [] ∷ [] ∷ [] ∷ [] ∷ []; steps = 6; concept_rows = 6; finding = Err (Condition Inclusions) };
     }
     ∷ []
 

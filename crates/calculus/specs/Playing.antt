@@ -1,5 +1,6 @@
 -- Opening a sheet, and playing a step on it.
 use Rattle.std.specs.Prelude.{ℕ, ◌+◌, ◌-◌, Bool, true, false, cond, ◌&&◌, List, [], ◌∷◌, length, Some, None, Ok, Err, Option, Result, nat_le, nat_lt}
+use Rattle.std.specs.List.{list_all}
 use Rattle.kb.specs.declared.axioms.Assertion.{Assertion}
 use Rattle.kb.specs.declared.axioms.Assertion.TheVariants.{Is, Joins, Same, Different, Unlisted}
 use Rattle.kb.specs.Meanings.{Meaning, counts_of}
@@ -11,7 +12,7 @@ use Rattle.calculus.specs.declared.row_kinds.PairRow.TheVariants.{Same as SameRo
 use Rattle.calculus.specs.declared.row_kinds.PendingRow.{PendingRow}
 use Rattle.calculus.specs.declared.step.Step.{Step}
 use Rattle.calculus.specs.Branches.{held}
-use Rattle.calculus.specs.States.{Ledgers, Numbers, State, branch_of, branch, row_counts, sizes_of, every, fits}
+use Rattle.calculus.specs.States.{Ledgers, Numbers, State, branch_of, branch, row_counts, sizes_of, fits}
 use Rattle.calculus.specs.Table.{Rule, rule, and_then}
 
 -- Ledgers without rows.
@@ -151,7 +152,7 @@ close m s (Some p) =
 -- A rule whose numbers are in range: 9 unless every need is held; 10 after 1,000,000 steps, or without a place.
 abbrev pub perform : Meaning → State → Rule → Result Played StepFault
 perform m s r =
-    cond (every (held m (branch s)) r.needs)
+    cond (list_all (held m (branch s)) r.needs)
     (cond (nat_lt s.numbers.steps 1000000)
     (cond r.closes (close m s (last_of s.ledgers.pending.rows)) (extend m s r))
     (Err Full))

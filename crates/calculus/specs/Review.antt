@@ -1,5 +1,6 @@
 -- Blocking, the eight conditions of review, and what review says. Each condition is a test that computes.
 use Rattle.std.specs.Prelude.{ℕ, zero, suc, ◌+◌, ◌*◌, Bool, true, false, cond, not, ◌&&◌, ◌||◌, List, [], ◌∷◌, length, Some, None, Ok, Err, Option, Result, nat_le, nat_lt}
+use Rattle.std.specs.List.{list_all}
 use Rattle.kb.specs.declared.axioms.Assertion.TheVariants.{Is, Joins, Different}
 use Rattle.kb.specs.declared.axioms.Inclusion.{Inclusion}
 use Rattle.kb.specs.declared.axioms.Key.{Key}
@@ -12,13 +13,15 @@ use Rattle.kb.specs.declared.names.Individual.{Individual}
 use Rattle.kb.specs.Meanings.{Meaning}
 use Rattle.kb.specs.Names.{complement}
 use Rattle.kb.specs.Numbers.{pair_list}
+use Rattle.calculus.specs.declared.review.Condition.{Condition}
+use Rattle.calculus.specs.declared.review.Condition.TheVariants.{NoContradiction, Assertions, BothParts, AllReached, Inclusions, Keys, EitherPart, SomeReached}
 use Rattle.calculus.specs.declared.review.Finding.{Finding}
 use Rattle.calculus.specs.declared.review.Finding.TheVariants.{Closed, Open}
 use Rattle.calculus.specs.declared.review.ReviewFault.{ReviewFault}
-use Rattle.calculus.specs.declared.review.ReviewFault.TheVariants.{Changed, Full, Condition}
+use Rattle.calculus.specs.declared.review.ReviewFault.TheVariants.{Changed, Full, Condition as Failing}
 use Rattle.calculus.specs.declared.row_kinds.ConceptRow.{ConceptRow}
 use Rattle.calculus.specs.Branches.{Branch, equal, held}
-use Rattle.calculus.specs.States.{State, branch, every, fits}
+use Rattle.calculus.specs.States.{State, branch, fits}
 
 abbrev pub individual : ℕ → Individual
 individual n = record { 0 = n }
@@ -44,7 +47,7 @@ module _ (m : Meaning) (b : Branch) where
   -- Individual t holds every concept that s holds.
   abbrev pub covers : ℕ → ℕ → Bool
   covers t s =
-      every (λ (row : ConceptRow). not (equal b.pairs row.individual (individual s)) || held m b (Is row.concept (individual t))) b.concepts
+      list_all (λ (row : ConceptRow). not (equal b.pairs row.individual (individual s)) || held m b (Is row.concept (individual t))) b.concepts
 
   -- An individual that is not of the base is new.
   abbrev pub new : ℕ → Bool
@@ -80,7 +83,7 @@ module _ (m : Meaning) (b : Branch) where
 
   -- 2. Every assertion is held.
   abbrev pub condition2 : Bool
-  condition2 = every (held m b) m.assertions
+  condition2 = list_all (held m b) m.assertions
 
   -- What conditions 3, 4, 7 and 8 ask of an individual x and entry k.
   abbrev pub both_parts : ℕ → ℕ → Entry → Bool
@@ -135,7 +138,7 @@ module _ (m : Meaning) (b : Branch) where
   -- 5. For each inclusion (c, d), ~c or d is held.
   abbrev pub condition5 : Bool
   condition5 =
-      every (λ (i : Inclusion). unblocked (λ x. held m b (Is (complement i.sub) (individual x)) || held m b (Is i.sup (individual x)))) m.inclusions
+      list_all (λ (i : Inclusion). unblocked (λ x. held m b (Is (complement i.sub) (individual x)) || held m b (Is i.sup (individual x)))) m.inclusions
 
   -- 6. For each key and base individuals x, y with values shared pair by pair: ~C of x or ~D of y is held, or they are equal.
   abbrev pub share_value : ℕ → ℕ → RolePair → Bool
@@ -144,12 +147,12 @@ module _ (m : Meaning) (b : Branch) where
 
   abbrev pub key_kept : Key → ℕ → ℕ → Bool
   key_kept (Link c d pairs) x y =
-      not (every (share_value x y) (pair_list pairs))
+      not (list_all (share_value x y) (pair_list pairs))
       || (held m b (Is (complement c) (individual x)) || (held m b (Is (complement d) (individual y)) || equal b.pairs (individual x) (individual y)))
   key_kept (UnlistedKey count) x y = true
 
   abbrev pub condition6 : Bool
-  condition6 = every (λ k. all_under (λ x. all_under (key_kept k x) m.individuals) m.individuals) m.keys
+  condition6 = list_all (λ k. all_under (λ x. all_under (key_kept k x) m.individuals) m.individuals) m.keys
 
   -- 7. A held ~BOTH(d, e) has ~d or ~e held.
   abbrev pub condition7 : Bool
@@ -160,14 +163,14 @@ module _ (m : Meaning) (b : Branch) where
   condition8 = each_entry some_reached
 
   -- The lowest condition that fails.
-  abbrev pub lowest_failing : Option ℕ
+  abbrev pub lowest_failing : Option Condition
   lowest_failing =
-      cond condition1 (cond condition2 (cond condition3 (cond condition4 (cond condition5 (cond condition6 (cond condition7 (cond condition8 None (Some 8)) (Some 7)) (Some 6)) (Some 5)) (Some 4)) (Some 3)) (Some 2)) (Some 1)
+      cond condition1 (cond condition2 (cond condition3 (cond condition4 (cond condition5 (cond condition6 (cond condition7 (cond condition8 None (Some SomeReached)) (Some EitherPart)) (Some Keys)) (Some Inclusions)) (Some AllReached)) (Some BothParts)) (Some Assertions)) (Some NoContradiction)
 
 -- What review says of a sheet that is not closed.
-abbrev pub found : Option ℕ → Result Finding ReviewFault
+abbrev pub found : Option Condition → Result Finding ReviewFault
 found None = Ok Open
-found (Some k) = Err (Condition k)
+found (Some k) = Err (Failing k)
 
 -- Review, with a scratch of a given length: 5 for a base or rows that are not the sheet's, 10 for a scratch of fewer than
 -- 1,024 numbers, closed on a closed sheet, 11 with the lowest condition that fails, open. It changes nothing.

@@ -1,5 +1,6 @@
 -- What a sheet is: four ledgers of rows, and the numbers that it remembers.
-use Rattle.std.specs.Prelude.{ℕ, Bool, true, ◌&&◌, List, [], ◌∷◌, length, ◌==◌, nat_le}
+use Rattle.std.specs.Prelude.{ℕ, Bool, ◌&&◌, length, ◌==◌, nat_le}
+use Rattle.std.specs.List.{list_all}
 use Rattle.kb.specs.declared.counts.Counts.{Counts}
 use Rattle.kb.specs.Meanings.{Meaning, counts_of}
 use Rattle.kb.specs.Range.{concept_in_range, role_in_range}
@@ -62,11 +63,6 @@ same_counts a b =
     (a.entries == b.entries) && (a.roles == b.roles && (a.individuals == b.individuals
     && (a.assertions == b.assertions && (a.inclusions == b.inclusions && a.keys == b.keys))))
 
--- A test passes at every item of a list.
-abbrev pub every : {A : Type 0} → (A → Bool) → List A → Bool
-every test [] = true
-every test (x ∷ xs) = test x && every test xs
-
 module _ (base : Counts) (n : ℕ) where
   -- A row names only concepts and roles of the base, and individuals of the sheet.
   abbrev pub concept_row_fits : ConceptRow → Bool
@@ -89,8 +85,8 @@ module _ (base : Counts) (n : ℕ) where
 
   abbrev pub rows_fit : Ledgers → Bool
   rows_fit l =
-      every concept_row_fits l.concepts.rows && (every role_row_fits l.roles.rows
-      && (every pair_row_fits l.pairs.rows && every (pending_row_fits (row_counts l)) l.pending.rows))
+      list_all concept_row_fits l.concepts.rows && (list_all role_row_fits l.roles.rows
+      && (list_all pair_row_fits l.pairs.rows && list_all (pending_row_fits (row_counts l)) l.pending.rows))
 
 -- The base and the ledgers are the sheet's: equal counts, sizes and numbers of rows, and every row within base and sheet.
 abbrev pub fits : Meaning → State → Bool

@@ -1,5 +1,6 @@
 -- Walks, and the interpretation that they are.
 use Rattle.std.specs.Prelude.{ℕ, zero, suc, ◌*◌, ◌/◌, ◌%◌, Bool, true, false, cond, not, ◌&&◌, ◌||◌, List, [], ◌∷◌, ◌++◌, Ok, Err, Result, ◌==◌, nat_lt}
+use Rattle.std.specs.List.{list_any}
 use Rattle.rows.specs.declared.fault.RowFault.{RowFault}
 use Rattle.rows.specs.Rows.{row_at}
 use Rattle.kb.specs.declared.axioms.Assertion.TheVariants.{Is, Joins}
@@ -10,7 +11,7 @@ use Rattle.kb.specs.declared.names.Role.{Role}
 use Rattle.kb.specs.Interpretations.{Interpretation}
 use Rattle.kb.specs.Meanings.{Meaning}
 use Rattle.calculus.specs.declared.row_kinds.RoleRow.{RoleRow}
-use Rattle.calculus.specs.Branches.{Branch, any, equal, head_of, held}
+use Rattle.calculus.specs.Branches.{Branch, equal, head_of, held}
 use Rattle.calculus.specs.Review.{blocked, blocker, individual, new, some_under}
 
 module _ (m : Meaning) (b : Branch) where
@@ -20,7 +21,7 @@ module _ (m : Meaning) (b : Branch) where
 
   -- Some role joins u to s.
   abbrev pub some_role : ℕ → ℕ → Bool
-  some_role u s = any (λ (r : RoleRow). equal b.pairs r.from (individual u) && equal b.pairs r.to (individual s)) b.roles
+  some_role u s = list_any (λ (r : RoleRow). equal b.pairs r.from (individual u) && equal b.pairs r.to (individual s)) b.roles
 
   -- After u comes v: it is where a walk goes for some new individual that a role joins u to.
   abbrev pub after : ℕ → ℕ → Bool

@@ -6,7 +6,7 @@ ghost use Rattle.calculus.specs.declared.fault.StepFault.TheVariants.{Row};
 use rows::RowFault;
 
 /// Why a step is refused, in the order in which it is looked at.
-#[derive(Clone, Copy)]
+#[derive(Clone, Copy, Debug, PartialEq, Eq)]
 pub enum StepFault {
     /// Sizes or row counts are not the sheet's, or a row names what the sheet or the base does not have: 5.
     Changed,
@@ -33,7 +33,7 @@ impl From<RowFault> for StepFault {
 }
 
 impl StepFault {
-    /// The first of the numbers that the fault is told by.
+    /// The first of the numbers that the fault is told by. They are published (docs/NUMBERS.md).
     pub fn number(self) -> u16
         ensures { result ≡ slice_index (step_fault_numbers self) 0 }
     {

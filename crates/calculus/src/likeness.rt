@@ -11,7 +11,7 @@ impl Alike for ConceptRow {
     ghost reflexive = { concept_rows_reflexive };
 
     fn is_alike(&self, other: &ConceptRow) -> bool {
-        self.concept.0 == other.concept.0
+        self.concept == other.concept
     }
 }
 
@@ -21,7 +21,7 @@ impl Alike for RoleRow {
     ghost reflexive = { role_rows_reflexive };
 
     fn is_alike(&self, other: &RoleRow) -> bool {
-        self.role.0 == other.role.0 && self.from.0 == other.from.0 && self.to.0 == other.to.0
+        self == other
     }
 }
 
@@ -31,11 +31,7 @@ impl Alike for PairRow {
     ghost reflexive = { pair_rows_reflexive };
 
     fn is_alike(&self, other: &PairRow) -> bool {
-        match (*self, *other) {
-            (PairRow::Same(_, _), PairRow::Same(_, _)) => true,
-            (PairRow::Different(_, _), PairRow::Different(_, _)) => true,
-            _ => false,
-        }
+        matches!(self, PairRow::Same(..)) == matches!(other, PairRow::Same(..))
     }
 }
 
@@ -45,11 +41,6 @@ impl Alike for PendingRow {
     ghost reflexive = { pending_rows_reflexive };
 
     fn is_alike(&self, other: &PendingRow) -> bool {
-        self.side.concept.0 == other.side.concept.0
-            && self.side.individual.0 == other.side.individual.0
-            && self.concepts == other.concepts
-            && self.roles == other.roles
-            && self.pairs == other.pairs
-            && self.individuals == other.individuals
+        self == other
     }
 }

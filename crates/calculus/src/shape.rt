@@ -2,7 +2,7 @@
 use kb::names::{Concept, Role};
 
 /// What a concept says, as far as a step asks.
-#[derive(Clone, Copy)]
+#[derive(Clone, Copy, Debug, PartialEq, Eq)]
 pub enum Shape {
     /// TOP, a name, an unlisted entry, or the complement of one of these.
     Plain,

@@ -2,7 +2,7 @@
 use kb::names::{Concept, Individual};
 
 /// A step of the calculus, with the numbers that it names.
-#[derive(Clone, Copy)]
+#[derive(Clone, Copy, Debug, PartialEq, Eq)]
 pub enum Step<'a> {
     /// Takes an assertion of the base.
     Take(usize),

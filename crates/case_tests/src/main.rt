@@ -136,15 +136,9 @@ const KEYS: [(&str, &[u16]); 12] = [
     ("65535 pairs", &[3, 2, 65535, 0, 0, 0, 0, 0, 0, 0, 0]),
 ];
 
-fn push_number(bytes: &mut Vec<u8>, n: u16) -> Result<(), AllocError> {
-    bytes.push((n / 256) as u8)?;
-    bytes.push((n % 256) as u8)?;
-    Ok(())
-}
-
 fn push_numbers(bytes: &mut Vec<u8>, numbers: &[u16]) -> Result<(), AllocError> {
     for n in numbers {
-        push_number(bytes, *n)?;
+        bytes.extend_from_slice(&n.to_be_bytes())?;
     }
     Ok(())
 }
@@ -159,12 +153,13 @@ fn push_rows(bytes: &mut Vec<u8>, row: &[u16], count: u16) -> Result<(), AllocEr
 // A file with these counts: TOP and names, then rows about the first names only.
 fn plain(heap: Global, sizes: &[u16; 6]) -> Result<Vec<u8>, AllocError> {
     let mut bytes = Vec::new(heap);
+    let [_, _, entries, assertions, inclusions, keys] = *sizes;
     push_numbers(&mut bytes, sizes)?;
-    push_rows(&mut bytes, &[0, 0, 0], sizes[2].min(1))?;
-    push_rows(&mut bytes, &[1, 0, 0], sizes[2].saturating_sub(1))?;
-    push_rows(&mut bytes, &[0, 0, 0, 0], sizes[3])?;
-    push_rows(&mut bytes, &[0, 0], sizes[4])?;
-    push_rows(&mut bytes, &[0, 0, 1, 0, 0, 0, 0, 0, 0, 0, 0], sizes[5])?;
+    push_rows(&mut bytes, &[0, 0, 0], entries.min(1))?;
+    push_rows(&mut bytes, &[1, 0, 0], entries.saturating_sub(1))?;
+    push_rows(&mut bytes, &[0, 0, 0, 0], assertions)?;
+    push_rows(&mut bytes, &[0, 0], inclusions)?;
+    push_rows(&mut bytes, &[0, 0, 1, 0, 0, 0, 0, 0, 0, 0, 0], keys)?;
     Ok(bytes)
 }
 
@@ -175,6 +170,7 @@ fn file_of(heap: Global, header: &[u16; 6], rows: &[u16]) -> Result<Vec<u8>, All
     Ok(bytes)
 }
 
+// Says in words of its own what `inspect` says too, so that these lines depend on no other crate's printing.
 fn show_base(
     rt: &HostRuntime,
     name: &str,
@@ -182,14 +178,14 @@ fn show_base(
 ) -> anyhow::Result<()> {
     match answer {
         Ok(_) => println!(rt; "{name}: accepted")?,
-        Err(BaseFault::Size) => println!(rt; "{name}: refused {}", BaseFault::Size.number())?,
-        Err(BaseFault::Row(list, k)) => {
+        Err(fault @ BaseFault::Row(list, k)) => {
             println!(rt;
                 "{name}: refused {} list {} row {k}",
-                BaseFault::Row(list, k).number(),
+                fault.number(),
                 list.number()
             )?
         }
+        Err(fault) => println!(rt; "{name}: refused {}", fault.number())?,
     }
     Ok(())
 }
@@ -243,14 +239,14 @@ fn rows(rt: &HostRuntime, cases: &[(&str, &[u16])], list: RowList) -> anyhow::Re
     Ok(())
 }
 
-// The one-individual case, cut short and drawn out.
+// The one-individual case, cut short, whole, and with bytes behind its end.
 fn lengths(rt: &HostRuntime) -> anyhow::Result<()> {
     let mut bytes = file_of(rt.alloc(), &[1, 1, 3, 1, 1, 1], &ONE_INDIVIDUAL)?;
     push_numbers(&mut bytes, &[0])?;
     for length in LENGTHS {
         let name = format!(in rt.alloc(); "{length} bytes of 64")?;
-        let end = bytes.as_slice().len().min(length);
-        show(rt, name.as_str(), &bytes.as_slice()[0..end])?;
+        let end = bytes.len().min(length);
+        show(rt, name.as_str(), &bytes.as_slice()[..end])?;
     }
     Ok(())
 }

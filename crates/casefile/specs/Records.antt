@@ -1,5 +1,5 @@
 -- How the numbers of a record say a row. A number that the row's kind or count does not need may be anything.
-use Rattle.std.specs.Prelude.{ℕ, cond, List, ◌==◌, slice_index}
+use Rattle.std.specs.Prelude.{◌≡◌, ℕ, ◌<◌, cond, List, ◌==◌, slice_index}
 use Rattle.kb.specs.declared.axioms.Assertion.{Assertion}
 use Rattle.kb.specs.declared.axioms.Assertion.TheVariants.{Is, Joins, Same, Different, Unlisted as UnlistedAssertion}
 use Rattle.kb.specs.declared.axioms.Inclusion.{Inclusion}
@@ -45,6 +45,10 @@ key_of c d count p q s t =
     (cond (count == 2) (Link c d (Two p q))
     (cond (count == 3) (Link c d (Three p q s))
     (cond (count == 4) (Link c d (Four p q s t)) (UnlistedKey count))))
+
+-- Numbers are the record that begins a list if they agree with it in the first so many.
+abbrev pub IsRecord : ℕ → List ℕ → List ℕ → Type 0
+IsRecord width ns numbers = (j : ℕ) → j < width → slice_index numbers j ≡ slice_index ns j
 
 -- The row that begins a list of numbers.
 abbrev pub read_entry : List ℕ → Entry

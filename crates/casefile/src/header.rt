@@ -2,36 +2,37 @@
 ghost use Rattle.casefile.specs.Files.{file_counts, whole_file};
 ghost use Rattle.casefile.specs.Layout.{header_counts};
 ghost use Rattle.casefile.specs.Numbers.{numbers};
-ghost use Rattle.std.specs.Prelude.{◌≡◌, slice_index};
+ghost use Rattle.casefile.specs.Records.{IsRecord};
+ghost use Rattle.std.specs.Prelude.{◌≡◌, ◌+◌, ◌<◌, ◌^◌, drop, slice_index};
 
 use crate::file::CaseFile;
 use crate::layout::end_at;
+use crate::records::Record;
 use kb::counts::Counts;
+use std::array;
 
 impl CaseFile<'_> {
     // Number i of the file; 0 behind its end.
-    pub(crate) fn number(&self, i: usize) -> u16
+    fn number(&self, i: usize) -> u16
         ensures { result ≡ slice_index (numbers self.now.bytes.now) i }
     {
-        if i < self.bytes.len() / 2 {
-            256 * u16::from(self.bytes[2 * i]) + u16::from(self.bytes[2 * i + 1])
-        } else {
-            0
-        }
+        let (numbers, _) = self.bytes.as_chunks::<2>();
+        numbers.get(i).map_or(0, |bytes| u16::from_be_bytes(*bytes))
+    }
+
+    // The record of N numbers that begins at number `at`.
+    pub(crate) fn record<const N: usize>(&self, at: usize) -> Record<N>
+        requires { at + N < 2 ^ 32 }
+        ensures { IsRecord N (drop at (numbers self.now.bytes.now)) result.0 }
+    {
+        Record(array::from_fn(|j| self.number(at + j)))
     }
 
     // The counts that the file announces, whether it keeps to them or not.
     fn announced(&self) -> Counts
         ensures { result ≡ header_counts (numbers self.now.bytes.now) }
     {
-        Counts {
-            individuals: self.number(0),
-            roles: self.number(1),
-            entries: self.number(2),
-            assertions: self.number(3),
-            inclusions: self.number(4),
-            keys: self.number(5),
-        }
+        Counts::from(self.record(0))
     }
 
     pub(crate) fn is_whole(&self) -> bool
@@ -47,14 +48,7 @@ impl CaseFile<'_> {
         if self.is_whole() {
             self.announced()
         } else {
-            Counts {
-                entries: 0,
-                roles: 0,
-                individuals: 0,
-                assertions: 0,
-                inclusions: 0,
-                keys: 0,
-            }
+            Counts::default()
         }
     }
 }

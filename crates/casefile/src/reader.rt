@@ -1,11 +1,15 @@
 // A case file read as a base, row by row, straight from its bytes.
-ghost use Rattle.casefile.specs.Owing.{file_owed};
 ghost use Rattle.casefile.specs.Files.{FileChecked, checked_file, file_meaning};
-ghost use Rattle.std.specs.Prelude.{◌≡◌};
+ghost use Rattle.casefile.specs.Numbers.{numbers};
+ghost use Rattle.casefile.specs.Owing.{file_owed};
+ghost use Rattle.casefile.specs.Records.{IsRecord};
+ghost use Rattle.casefile.specs.declared.records.Record.{Record};
+ghost use Rattle.std.specs.Prelude.{◌≡◌, ◌+◌, ◌*◌, ◌<◌, ◌≤◌, drop, IfOk, OnErr};
 
 use crate::fault::FileFault;
 use crate::file::CaseFile;
-use crate::layout::{assertions_at, inclusions_at, keys_at};
+use crate::layout::{Section, assertions, entries, inclusions, keys};
+use crate::records::Record;
 use kb::axioms::{Assertion, Inclusion, Key};
 use kb::base::Base;
 use kb::counts::Counts;
@@ -33,6 +37,22 @@ impl CaseFile<'_> {
             Err(FileFault::Broken)
         }
     }
+
+    // Row n of a section.
+    fn row<const N: usize, T: From<Record<N>>>(
+        &self,
+        section: Section<N>,
+        n: usize,
+    ) -> Result<T, RowFault>
+        ensures found { IfOk result (λ row. (n < section.entry.rows) × (r : Record N) × IsRecord N (drop (section.entry.at + N * n) (numbers self.now.bytes.now)) r.0 × T.from_gives r row) }
+        ensures absent { OnErr result (section.entry.rows ≤ n) }
+    {
+        if n < usize::from(section.rows) {
+            Ok(T::from(self.record(section.at + N * n)))
+        } else {
+            Err(RowFault::NoSuchRow)
+        }
+    }
 }
 
 impl Base for CaseFile<'_> {
@@ -45,38 +65,18 @@ impl Base for CaseFile<'_> {
     }
 
     fn entry(&self, n: usize) -> Result<Entry, RowFault> {
-        let counts = self.header();
-        if n < usize::from(counts.entries) {
-            Ok(self.read_entry(6 + 3 * n))
-        } else {
-            Err(RowFault::NoSuchRow)
-        }
+        self.row(entries(self.header()), n)
     }
 
     fn assertion(&self, n: usize) -> Result<Assertion, RowFault> {
-        let counts = self.header();
-        if n < usize::from(counts.assertions) {
-            Ok(self.read_assertion(assertions_at(&counts) + 4 * n))
-        } else {
-            Err(RowFault::NoSuchRow)
-        }
+        self.row(assertions(self.header()), n)
     }
 
     fn inclusion(&self, n: usize) -> Result<Inclusion, RowFault> {
-        let counts = self.header();
-        if n < usize::from(counts.inclusions) {
-            Ok(self.read_inclusion(inclusions_at(&counts) + 2 * n))
-        } else {
-            Err(RowFault::NoSuchRow)
-        }
+        self.row(inclusions(self.header()), n)
     }
 
     fn key(&self, n: usize) -> Result<Key, RowFault> {
-        let counts = self.header();
-        if n < usize::from(counts.keys) {
-            Ok(self.read_key(keys_at(&counts) + 11 * n))
-        } else {
-            Err(RowFault::NoSuchRow)
-        }
+        self.row(keys(self.header()), n)
     }
 }

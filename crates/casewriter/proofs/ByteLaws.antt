@@ -1,17 +1,14 @@
 -- Numbers as bytes, and back.
-use Rattle.std.proofs.Common.{◌≡◌, ℕ, ◌+◌, ◌*◌, ◌/◌, ◌%◌, ◌<◌, min, List, [], ◌∷◌, ◌++◌, length, get_or, take, sym, refl, ap, ◌∙◌, append_assoc, append-nil, arith, length-append}
+use Rattle.std.proofs.Common.{◌≡◌, ℕ, ◌+◌, ◌*◌, ◌/◌, ◌%◌, ◌<◌, min, List, [], ◌∷◌, ◌++◌, length, get_or, take, refl, ap, ◌∙◌, append-nil, arith, length-append}
 use Rattle.std.specs.List.{flat_map, AllByRecursion}
 use Rattle.std.proofs.ByRecursion.{All-append}
 use Rattle.std.proofs.lemmas.List.{take_more}
+use Rattle.std.proofs.lemmas.List.Concat.{flat_map-append}
 use Rattle.kb.specs.Meanings.{Tellable}
 use Rattle.casefile.specs.Numbers.{numbers}
 use Rattle.casewriter.specs.Encoding.{two_bytes, bytes_of}
 
 module _ {X : Type 0} (f : X → List ℕ) where
-  pub joined-append : (xs ys : List X) → flat_map f (xs ++ ys) ≡ flat_map f xs ++ flat_map f ys
-  joined-append [] ys = refl
-  joined-append (x ∷ xs) ys = ap (λ zs. f x ++ zs) (joined-append xs ys) ∙ sym (append_assoc (f x) (flat_map f xs) (flat_map f ys))
-
   pub length-joined : (width : ℕ) → ((x : X) → length (f x) ≡ width) → (xs : List X) → length (flat_map f xs) ≡ width * length xs
   length-joined width same [] = omega arith
   length-joined width same (x ∷ xs) = length-append (f x) (flat_map f xs) ∙ omega (arith, same x, length-joined width same xs)
@@ -23,7 +20,7 @@ module _ {X : Type 0} (f : X → List ℕ) where
   -- one row more
   pub joined-take : (xs : List X) (i : ℕ) (d : X) → i < length xs → flat_map f (take (i + 1) xs) ≡ flat_map f (take i xs) ++ f (get_or xs i d)
   joined-take xs i d h =
-      ap (flat_map f) (take_more xs i d h) ∙ joined-append (take i xs) (get_or xs i d ∷ [])
+      ap (flat_map f) (take_more xs i d h) ∙ flat_map-append f (take i xs) (get_or xs i d ∷ [])
       ∙ ap (λ ys. flat_map f (take i xs) ++ ys) (append-nil (f (get_or xs i d)))
 
 pub length-bytes : (ns : List ℕ) → length (bytes_of ns) ≡ 2 * length ns

@@ -16,11 +16,8 @@ use Rattle.casewriter.specs.Writing.{after_answer, buffer_after, fitted, over, w
 use Rattle.casewriter.proofs.RoundTrip.{reads_case, whole_case}
 
 not_ten : (f : BaseFault) → base_fault_numbers f ≡ 10 ∷ [] → ⊥
-not_ten Size e = let z : ◌≡◌ {A = ℕ} 4 10 = cc in omega arith
-not_ten (Row list k) e = let z : ◌≡◌ {A = ℕ} 2 10 = cc in omega arith
-
-not-both : {X E : Type 0} (c : Result X E) (x : X) (e : E) → c ≡ Ok x → c ≡ Err e → ⊥
-not-both c x e p q = let z : ◌≡◌ {A = ℕ} 0 1 = cc in omega arith
+not_ten Size e = cc e
+not_ten (Row list k) e = cc e
 
 -- the answer, the buffer after it, and the words
 pub record Answered (m : Meaning) (before : List ℕ) (r : Result ℕ WriteFault) (after : List ℕ) : Type 0 where
@@ -38,12 +35,12 @@ module _ (m : Meaning) (before : List ℕ) where
   refused f q =
       answered (Err (Base f)) before (ap (fitted (length (case_bytes m)) (length before)) q) refl
       (record {
-        written = λ a _. absurd (not-both _ _ f a q);
-        whole = λ n e. absurd (not-both _ n (Base f) e refl);
-        reads_back = λ n e. absurd (not-both _ n (Base f) e refl);
-        behind = λ n e. absurd (not-both _ n (Base f) e refl);
+        written = λ a _. cc (a, q);
+        whole = λ n e. cc e;
+        reads_back = λ n e. cc e;
+        behind = λ n e. cc e;
         refused = λ g p. let e : f ≡ g = cc (q, p) in ap base_fault_numbers e;
-        full = λ a _. absurd (not-both _ _ f a q);
+        full = λ a _. cc (a, q);
         full_only = λ e. absurd (not_ten f e);
         unchanged = λ _ _. refl;
       })
@@ -56,10 +53,10 @@ module _ (m : Meaning) (before : List ℕ) where
       (ap (fitted (length (case_bytes m)) (length before)) q ∙ cond-false _ _ _ (lt-leb (length (case_bytes m)) (length before) h)) refl
       (record {
         written = λ _ l. absurd (omega arith);
-        whole = λ k e. absurd (not-both _ k Full e refl);
-        reads_back = λ k e. absurd (not-both _ k Full e refl);
-        behind = λ k e. absurd (not-both _ k Full e refl);
-        refused = λ f p. absurd (not-both _ n f q p);
+        whole = λ k e. cc e;
+        reads_back = λ k e. cc e;
+        behind = λ k e. cc e;
+        refused = λ f p. cc (q, p);
         full = λ _ _. refl;
         full_only = λ _. (q ∙ ap Ok a.0, h);
         unchanged = λ _ _. refl;
@@ -78,10 +75,10 @@ module _ (m : Meaning) (before : List ℕ) where
         whole = λ k e. ap whole_file (front k e ∙ file) ∙ whole_case m a.1 o;
         reads_back = λ k e. ap file_meaning (front k e ∙ file) ∙ reads_case m a.1 a.2 o;
         behind = λ k e. let s = same k e in subst (λ (j : ℕ). drop j after ≡ drop j before) s rest;
-        refused = λ f p. absurd (not-both _ n f q p);
+        refused = λ f p. cc (q, p);
         full = λ _ l. absurd (omega arith);
-        full_only = λ e. let z : ◌≡◌ {A = ℕ} 0 1 = cc in absurd (omega arith);
-        unchanged = λ f e. absurd (not-both _ _ f refl e);
+        full_only = λ e. cc e;
+        unchanged = λ f e. cc e;
       })
     where
       same : (k : ℕ) → ◌≡◌ {A = Result ℕ WriteFault} (Ok (length (case_bytes m))) (Ok k) → length (case_bytes m) ≡ k

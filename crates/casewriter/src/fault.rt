@@ -6,7 +6,7 @@ ghost use Rattle.std.specs.Prelude.{◌≡◌, slice_index};
 use kb::fault::BaseFault;
 
 /// Why a base is not written.
-#[derive(Clone, Copy)]
+#[derive(Clone, Copy, Debug, PartialEq, Eq)]
 pub enum WriteFault {
     /// The base is not accepted: 4, or 2 with a list and a row.
     Base(BaseFault),
@@ -15,7 +15,7 @@ pub enum WriteFault {
 }
 
 impl WriteFault {
-    /// The first of the numbers that the fault is told by.
+    /// The first of the numbers that the fault is told by. They are published (docs/NUMBERS.md).
     pub fn number(self) -> u16
         ensures { result ≡ slice_index (write_fault_numbers self) 0 }
     {

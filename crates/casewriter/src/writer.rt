@@ -16,7 +16,7 @@ pub fn write_case<B: Base>(base: &B, buffer: &mut [u8]) -> Result<usize, WriteFa
 {
     let counts = check_base(base)?;
     if case_size(&counts) <= buffer.len() {
-        Ok(put_case(base, &counts, buffer))
+        Ok(put_case(base, buffer))
     } else {
         Err(WriteFault::Full)
     }

@@ -16,9 +16,7 @@ fn file_bytes(heap: Global, numbers: &str) -> Result<Vec<u8>, AllocError> {
     let mut bytes = vec![in heap]?;
     for word in numbers.split_whitespace() {
         let n = word.parse::<u16>().unwrap_or(65535);
-        let [high, low] = n.to_be_bytes();
-        bytes.push(high)?;
-        bytes.push(low)?;
+        bytes.extend_from_slice(&n.to_be_bytes())?;
     }
     Ok(bytes)
 }
@@ -26,14 +24,10 @@ fn file_bytes(heap: Global, numbers: &str) -> Result<Vec<u8>, AllocError> {
 fn print_answer(rt: &HostRuntime, answer: Result<usize, WriteFault>) -> io::Result<()> {
     match answer {
         Ok(n) => print!(rt; "wrote {n}"),
-        Err(WriteFault::Base(BaseFault::Row(list, row))) => {
-            let list = list.number();
-            print!(rt; "refused 2 {list} {row}")
+        Err(fault @ WriteFault::Base(BaseFault::Row(list, row))) => {
+            print!(rt; "refused {} {} {row}", fault.number(), list.number())
         }
-        Err(fault) => {
-            let number = fault.number();
-            print!(rt; "refused {number}")
-        }
+        Err(fault) => print!(rt; "refused {}", fault.number()),
     }
 }
 

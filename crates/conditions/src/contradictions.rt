@@ -12,71 +12,49 @@ use lookup::view::View;
 use places::contradictions::{apart_at, clash_at};
 
 // The first individual of which both concepts are held.
-fn first_clash_between<B: Base>(
-    view: &View<'_, '_>,
-    base: &B,
-    c: Concept,
-    d: Concept,
-) -> Option<Failure>
-    ensures { result ≡ first_on_sheet (B.meaning base.now) (branch_in view.now) (clash_at (B.meaning base.now) (branch_in view.now) c d) }
+fn first_clash_between<B: Base>(view: &View<'_, '_, B>, c: Concept, d: Concept) -> Option<Failure>
+    ensures { result ≡ first_on_sheet (B.meaning view.now.base.now) (branch_in view.now) (clash_at (B.meaning view.now.base.now) (branch_in view.now) c d) }
 {
-    for x in 0..view.individuals() {
-        if let Some(f) = clash_at(view, base, c, d, Individual(x)) {
-            return Some(f);
-        }
-    }
-    None
+    (0..view.individuals()).find_map(|x| clash_at(view, c, d, Individual(x)))
 }
 
 // The same for the two concepts of entry k: none where one of them is held of nothing.
-fn first_clash_of<B: Base>(view: &View<'_, '_>, base: &B, k: u16) -> Option<Failure>
-    ensures { result ≡ first_on_sheet (B.meaning base.now) (branch_in view.now) (clash_at (B.meaning base.now) (branch_in view.now) (concept (2 * k)) (concept (2 * k + 1))) }
+fn first_clash_of<B: Base>(view: &View<'_, '_, B>, k: u16) -> Option<Failure>
+    ensures { result ≡ first_on_sheet (B.meaning view.now.base.now) (branch_in view.now) (clash_at (B.meaning view.now.base.now) (branch_in view.now) (concept (2 * k)) (concept (2 * k + 1))) }
 {
     let c = concept_named(view, 2 * usize::from(k))?;
     let d = concept_named(view, 2 * usize::from(k) + 1)?;
-    first_clash_between(view, base, c, d)
+    first_clash_between(view, c, d)
 }
 
-fn first_clash<B: Base>(view: &View<'_, '_>, base: &B) -> Option<Failure>
-    ensures { result ≡ first_clash (B.meaning base.now) (branch_in view.now) }
+fn first_clash<B: Base>(view: &View<'_, '_, B>) -> Option<Failure>
+    ensures { result ≡ first_clash (B.meaning view.now.base.now) (branch_in view.now) }
 {
-    for k in 0..base.counts().entries {
-        if let Some(f) = first_clash_of(view, base, k) {
-            return Some(f);
-        }
-    }
-    None
+    (0..view.base.counts().entries).find_map(|k| first_clash_of(view, k))
 }
 
 // The first y that is different from x and equal.
-fn first_apart_from<B: Base>(view: &View<'_, '_>, base: &B, x: Individual) -> Option<Failure>
-    ensures { result ≡ first_on_sheet (B.meaning base.now) (branch_in view.now) (apart_at (B.meaning base.now) (branch_in view.now) x.0) }
+fn first_apart_from<B: Base>(view: &View<'_, '_, B>, x: Individual) -> Option<Failure>
+    ensures { result ≡ first_on_sheet (B.meaning view.now.base.now) (branch_in view.now) (apart_at (B.meaning view.now.base.now) (branch_in view.now) x.0) }
 {
-    for y in 0..view.individuals() {
-        if let Some(f) = apart_at(view, base, x, Individual(y)) {
-            return Some(f);
-        }
-    }
-    None
+    (0..view.individuals()).find_map(|y| apart_at(view, x, Individual(y)))
 }
 
-fn first_apart<B: Base>(view: &View<'_, '_>, base: &B) -> Option<Failure>
-    ensures { result ≡ first_apart (B.meaning base.now) (branch_in view.now) }
+fn first_apart<B: Base>(view: &View<'_, '_, B>) -> Option<Failure>
+    ensures { result ≡ first_apart (B.meaning view.now.base.now) (branch_in view.now) }
 {
-    for x in 0..view.individuals() {
-        if let Some(f) = first_apart_from(view, base, Individual(x)) {
-            return Some(f);
-        }
-    }
-    None
+    (0..view.individuals()).find_map(|x| first_apart_from(view, Individual(x)))
 }
 
 // The first place at which condition 1 fails: a clash, or, where there is none, two that are different and equal.
-pub(crate) fn first_contradiction<B: Base>(view: &View<'_, '_>, base: &B) -> Option<Failure>
-    ensures { result ≡ first_contradiction (B.meaning base.now) (branch_in view.now) }
+pub(crate) fn first_contradiction<B: Base>(view: &View<'_, '_, B>) -> Option<Failure>
+    ensures { result ≡ first_contradiction (B.meaning view.now.base.now) (branch_in view.now) }
 {
-    match first_clash(view, base) {
-        Some(f) => Some(f),
-        None => first_apart(view, base),
+    // Not `or_else`: where nothing clashes, it gives what its closure answers, and a closure that is called once and captures a
+    // reference to a struct with a lifetime, as to a view, promises nothing of that, not even by a clause of its own. So `returns`
+    // stays open. A function of our own like it, under the bound `Fn`, would prove, and be the library's method by hand.
+    match first_clash(view) {
+        None => first_apart(view),
+        found => found,
     }
 }

@@ -7,17 +7,15 @@ use kb::names::Concept;
 use lookup::view::View;
 
 // The concept of a number, if it can be held of anything: concept 0, or one that a row has.
-pub(crate) fn concept_named(view: &View<'_, '_>, n: usize) -> Option<Concept>
+pub(crate) fn concept_named<B>(view: &View<'_, '_, B>, n: usize) -> Option<Concept>
     ensures { result ≡ concept_named (branch_in view.now) n }
 {
     if n == 0 {
         return Some(Concept(0));
     }
-    let rows = view.concepts;
-    for i in 0..rows.len() {
-        if usize::from(rows[i].concept.0) == n {
-            return Some(rows[i].concept);
-        }
-    }
-    None
+    let row = view
+        .concepts
+        .iter()
+        .find(|row| usize::from(row.concept.0) == n)?;
+    Some(row.concept)
 }

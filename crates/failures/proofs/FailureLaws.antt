@@ -4,9 +4,12 @@ use Rattle.std.specs.Option.{option_map}
 use Rattle.std.proofs.lemmas.Bool.{and_from, and_parts, false≢true}
 use Rattle.kb.specs.First.{or_else}
 use Rattle.kb.specs.Meanings.{Meaning}
+use Rattle.calculus.specs.declared.review.Condition.{Condition}
+use Rattle.calculus.specs.declared.review.Condition.TheVariants.{NoContradiction, Assertions, BothParts as BothPartsCondition, AllReached as AllReachedCondition, Inclusions, Keys, EitherPart as EitherPartCondition, SomeReached as SomeReachedCondition}
 use Rattle.calculus.specs.Branches.{Branch}
+use Rattle.calculus.specs.Faults.{condition_number}
 use Rattle.calculus.specs.Review.{concept, individual, condition1, condition2, condition3, condition4, condition5, condition6, condition7, condition8, lowest_failing, no_clash, no_different}
-use Rattle.calculus.proofs.ConditionLaws.{lowest_failing-none, lowest_failing-some}
+use Rattle.calculus.proofs.ConditionLaws.{condition_number_injective, lowest_failing-none, lowest_failing-some}
 use Rattle.failures.specs.declared.failure.EntryCondition.TheVariants.{BothParts, AllReached, EitherPart, SomeReached}
 use Rattle.failures.specs.declared.failure.Failure.{Failure}
 use Rattle.failures.specs.declared.failure.Failure.TheVariants.{Clash, Apart, Assertion, Both, All, Inclusion, Key, Either, Some as SomeFailure}
@@ -17,18 +20,18 @@ use Rattle.failures.proofs.PlaceLaws.{AllFound, ApartFound, AssertionFound, Both
 use Rattle.failures.proofs.WordLaws.{all_fails, apart_fails, assertion_fails, both-fails, clash_fails, either-fails, fails_all, fails_apart, fails_assertion, fails_both, fails_clash, fails-either, fails_inclusion, fails_key, fails-some, inclusion_fails, key_fails, some-fails}
 
 -- what is found under condition k, as the test of that condition tells it
-told : (k : ℕ) (t : Bool) (o : Option Failure) {S : Failure → Type 0} → Finds failure_numbers (k ∷ []) (t ≡ true) S o → option_map condition_of o ≡ cond t None (Some k)
+told : (k : Condition) (t : Bool) (o : Option Failure) {S : Failure → Type 0} → Finds failure_numbers (condition_number k ∷ []) (t ≡ true) S o → option_map condition_of o ≡ cond t None (Some k)
 told k true None h = refl
 told k true (Some f) h = absurd (h.clear refl f (h.some f refl).0)
 told k false None h = absurd (false≢true (h.none refl))
-told k false (Some f) h = ap Some (h.begins f (h.some f refl).0).0
+told k false (Some f) h = ap Some (condition_number_injective (condition_of f) k (h.begins f (h.some f refl).0).0)
 
 -- what is found under condition k, or else under those after it
-told-next : (k : ℕ) (t : Bool) (o rest : Option Failure) (lowest : Option ℕ) {S : Failure → Type 0} → Finds failure_numbers (k ∷ []) (t ≡ true) S o → option_map condition_of rest ≡ lowest → option_map condition_of (or_else o rest) ≡ cond t lowest (Some k)
+told-next : (k : Condition) (t : Bool) (o rest : Option Failure) (lowest : Option Condition) {S : Failure → Type 0} → Finds failure_numbers (condition_number k ∷ []) (t ≡ true) S o → option_map condition_of rest ≡ lowest → option_map condition_of (or_else o rest) ≡ cond t lowest (Some k)
 told-next k true None rest lowest h e = e
 told-next k true (Some f) rest lowest h e = absurd (h.clear refl f (h.some f refl).0)
 told-next k false None rest lowest h e = absurd (false≢true (h.none refl))
-told-next k false (Some f) rest lowest h e = ap Some (h.begins f (h.some f refl).0).0
+told-next k false (Some f) rest lowest h e = ap Some (condition_number_injective (condition_of f) k (h.begins f (h.some f refl).0).0)
 
 -- a failure is known by its numbers
 failure_of : List ℕ → Failure
@@ -61,10 +64,10 @@ failure_of-numbers (SomeFailure c x) = refl
 failure_numbers_injective : (f g : Failure) → failure_numbers f ≡ failure_numbers g → f ≡ g
 failure_numbers_injective f g e = sym (failure_of-numbers f) ∙ ap failure_of e ∙ failure_of-numbers g
 
--- what is found under conditions from k on
+-- what is found under conditions from number k on
 pub record FindsFrom (k : ℕ) (C : Type 0) (S : Failure → Type 0) (o : Option Failure) : Type 0 where
   pub finds : Finds failure_numbers [] C S o
-  pub from : (f : Failure) → S f → k ≤ condition_of f
+  pub from : (f : Failure) → S f → k ≤ condition_number (condition_of f)
 
 finds_last : (k : ℕ) (o : Option Failure) {C : Type 0} {S : Failure → Type 0} → Finds failure_numbers (k ∷ []) C S o → FindsFrom k C S o
 finds_last k o h = record { finds = finds-front failure_numbers [] (k ∷ []) h; from = λ f s. omega (arith, (h.begins f s).0) }
@@ -90,14 +93,14 @@ module _ (m : Meaning) (b : Branch) where
 
   pub first_of_lowest : option_map condition_of (first_failure m b) ≡ lowest_failing m b
   first_of_lowest =
-      told-next 1 (condition1 m b) (first_contradiction m b) _ _ finds_contradiction
-      (told-next 2 (condition2 m b) (first_assertion m b) _ _ (finds_assertion m b)
-      (told-next 3 (condition3 m b) (first_of_entries m b BothParts) _ _ (finds-both-parts m b)
-      (told-next 4 (condition4 m b) (first_of_entries m b AllReached) _ _ (finds_all_reached m b)
-      (told-next 5 (condition5 m b) (first_inclusion m b) _ _ (finds_inclusion m b)
-      (told-next 6 (condition6 m b) (first_key m b) _ _ (finds_key m b)
-      (told-next 7 (condition7 m b) (first_of_entries m b EitherPart) _ _ (finds-either-part m b)
-      (told 8 (condition8 m b) (first_of_entries m b SomeReached) (finds-some-reached m b))))))))
+      told-next NoContradiction (condition1 m b) (first_contradiction m b) _ _ finds_contradiction
+      (told-next Assertions (condition2 m b) (first_assertion m b) _ _ (finds_assertion m b)
+      (told-next BothPartsCondition (condition3 m b) (first_of_entries m b BothParts) _ _ (finds-both-parts m b)
+      (told-next AllReachedCondition (condition4 m b) (first_of_entries m b AllReached) _ _ (finds_all_reached m b)
+      (told-next Inclusions (condition5 m b) (first_inclusion m b) _ _ (finds_inclusion m b)
+      (told-next Keys (condition6 m b) (first_key m b) _ _ (finds_key m b)
+      (told-next EitherPartCondition (condition7 m b) (first_of_entries m b EitherPart) _ _ (finds-either-part m b)
+      (told SomeReachedCondition (condition8 m b) (first_of_entries m b SomeReached) (finds-some-reached m b))))))))
 
   -- a place found under one of the eight conditions
   abbrev Found : Failure → Type 0

@@ -2,6 +2,7 @@
 use Rattle.std.proofs.Common.{◌≡◌, ℕ, ◌+◌, ◌-◌, ◌*◌, ◌%◌, ◌<◌, Bool, true, false, not, ◌&&◌, ◌||◌, Ok, Decides, sym, refl, ap, ◌∙◌, subst, arith}
 use Rattle.std.proofs.lemmas.Bool.{both_ways, or_from, or_parts, true≢false}
 use Rattle.std.proofs.lemmas.Bool.Decides.{Decides-and}
+use Rattle.std.specs.List.{list_all}
 use Rattle.rows.specs.Rows.{row_at}
 use Rattle.rows.proofs.RowLaws.{row_at-found}
 use Rattle.kb.specs.declared.axioms.Assertion.TheVariants.{Is, Joins, Same, Different}
@@ -21,7 +22,6 @@ use Rattle.calculus.specs.Branches.{Branch, Equal, equal, held}
 use Rattle.calculus.specs.Conditions.{ValuesShared}
 use Rattle.calculus.specs.Holding.{Held}
 use Rattle.calculus.specs.Review.{blocked, both_parts, concept, either_part, holds, individual, key_kept, share_value, some_reached, some_under}
-use Rattle.calculus.specs.States.{every}
 use Rattle.calculus.proofs.ConditionLaws.{BothOnly, SomeOnly, decides_held, decides_some_with}
 use Rattle.calculus.proofs.DecidingLaws.{decides_every}
 use Rattle.failures.specs.declared.failure.Failure.{Failure}
@@ -122,9 +122,9 @@ module _ (m : Meaning) (b : Branch) where
 
   refutes_key : (c d : Concept) (pairs : RolePairs) (x y : ℕ) → Refutes (key_kept m b (Link c d pairs) x y) (ValuesShared m b pairs (individual x) (individual y) × ((Held m b (Is (complement c) (individual x)) → ⊥) × ((Held m b (Is (complement d) (individual y)) → ⊥) × (Equal b.pairs (individual x) (individual y) → ⊥))))
   refutes_key c d pairs x y =
-      refutes-or (not (every (share_value m b x y) (pair_list pairs)))
+      refutes-or (not (list_all (share_value m b x y) (pair_list pairs)))
       (held m b (Is (complement c) (individual x)) || (held m b (Is (complement d) (individual y)) || equal b.pairs (individual x) (individual y)))
-      (refutes-not (every (share_value m b x y) (pair_list pairs))
+      (refutes-not (list_all (share_value m b x y) (pair_list pairs))
       (decides_every (λ p. decides_some_with (λ z. decides_joins p.left x z) (λ z. decides_joins p.right y z) b.individuals) (pair_list pairs)))
       (refutes-or (held m b (Is (complement c) (individual x))) (held m b (Is (complement d) (individual y)) || equal b.pairs (individual x) (individual y))
       (not-held (complement c) x)

@@ -13,6 +13,8 @@ use Rattle.kb.specs.declared.names.Role.{Role}
 use Rattle.kb.specs.First.{or_else}
 use Rattle.kb.specs.Meanings.{Meaning}
 use Rattle.kb.specs.Names.{complement}
+use Rattle.calculus.specs.declared.review.Condition.{Condition}
+use Rattle.calculus.specs.declared.review.Condition.TheVariants.{NoContradiction, Assertions, BothParts as BothPartsCondition, AllReached as AllReachedCondition, Inclusions, Keys, EitherPart as EitherPartCondition, SomeReached as SomeReachedCondition}
 use Rattle.calculus.specs.Branches.{Branch, equal, held}
 use Rattle.calculus.specs.Review.{blocked, concept, individual, key_kept, some_under}
 use Rattle.failures.specs.declared.failure.EntryCondition.{EntryCondition}
@@ -20,17 +22,17 @@ use Rattle.failures.specs.declared.failure.EntryCondition.TheVariants.{BothParts
 use Rattle.failures.specs.declared.failure.Failure.{Failure}
 use Rattle.failures.specs.declared.failure.Failure.TheVariants.{Clash, Apart, Assertion, Both, All, Inclusion, Key, Either, Some as SomeFailure}
 
--- The number of the condition that fails.
-abbrev pub condition_of : Failure → ℕ
-condition_of (Clash c x) = 1
-condition_of (Apart x y) = 1
-condition_of (Assertion n) = 2
-condition_of (Both c x) = 3
-condition_of (All c x y) = 4
-condition_of (Inclusion n x) = 5
-condition_of (Key n x y) = 6
-condition_of (Either c x) = 7
-condition_of (SomeFailure c x) = 8
+-- The condition that fails.
+abbrev pub condition_of : Failure → Condition
+condition_of (Clash c x) = NoContradiction
+condition_of (Apart x y) = NoContradiction
+condition_of (Assertion n) = Assertions
+condition_of (Both c x) = BothPartsCondition
+condition_of (All c x y) = AllReachedCondition
+condition_of (Inclusion n x) = Inclusions
+condition_of (Key n x y) = Keys
+condition_of (Either c x) = EitherPartCondition
+condition_of (SomeFailure c x) = SomeReachedCondition
 
 -- What is found first, from number 0 up to a bound.
 abbrev pub first_under : {X : Type 0} → (ℕ → Option X) → ℕ → Option X

@@ -14,6 +14,7 @@ use Rattle.kb.specs.Meanings.{Meaning}
 use Rattle.kb.specs.Names.{complement}
 use Rattle.calculus.specs.Branches.{Branch, Equal}
 use Rattle.calculus.specs.Conditions.{Conditions, LowestFailing, NotBlocked, OnSheet, ValuesShared}
+use Rattle.calculus.specs.Faults.{condition_number}
 use Rattle.calculus.specs.Holding.{Held}
 use Rattle.calculus.specs.Review.{concept}
 use Rattle.failures.specs.declared.failure.Failure.{Failure}
@@ -32,9 +33,9 @@ numbers_within (Key n x y) = n ∷ x.0 ∷ y.0 ∷ []
 numbers_within (Either c x) = c.0 ∷ x.0 ∷ []
 numbers_within (SomeFailure c x) = c.0 ∷ x.0 ∷ []
 
--- The numbers of a failure: its condition, then its place.
+-- The numbers of a failure: its condition's, then its place's.
 abbrev pub failure_numbers : Failure → List ℕ
-failure_numbers f = condition_of f ∷ numbers_within f
+failure_numbers f = condition_number (condition_of f) ∷ numbers_within f
 
 -- One list of numbers comes before another, as words do in a dictionary.
 abbrev pub Before : List ℕ → List ℕ → Type 0

@@ -2,10 +2,11 @@
 ghost use Rattle.failures.specs.Failures.{condition_of};
 ghost use Rattle.std.specs.Prelude.{◌≡◌};
 
+use calculus::review::Condition;
 use kb::names::{Concept, Individual};
 
 /// A place at which one of the eight conditions fails.
-#[derive(Clone, Copy)]
+#[derive(Clone, Copy, Debug, PartialEq, Eq)]
 pub enum Failure {
     /// 1: an entry's concept and its complement are both held of x.
     Clash(Concept, Individual),
@@ -28,26 +29,26 @@ pub enum Failure {
 }
 
 impl Failure {
-    /// The number of the condition that fails.
-    pub fn condition(self) -> u16
+    /// The condition that fails.
+    pub fn condition(self) -> Condition
         ensures { result ≡ condition_of self }
     {
         match self {
-            Failure::Clash(_, _) => 1,
-            Failure::Apart(_, _) => 1,
-            Failure::Assertion(_) => 2,
-            Failure::Both(_, _) => 3,
-            Failure::All(_, _, _) => 4,
-            Failure::Inclusion(_, _) => 5,
-            Failure::Key(_, _, _) => 6,
-            Failure::Either(_, _) => 7,
-            Failure::Some(_, _) => 8,
+            Failure::Clash(_, _) | Failure::Apart(_, _) => Condition::NoContradiction,
+            Failure::Assertion(_) => Condition::Assertions,
+            Failure::Both(_, _) => Condition::BothParts,
+            Failure::All(_, _, _) => Condition::AllReached,
+            Failure::Inclusion(_, _) => Condition::Inclusions,
+            Failure::Key(_, _, _) => Condition::Keys,
+            Failure::Either(_, _) => Condition::EitherPart,
+            Failure::Some(_, _) => Condition::SomeReached,
         }
     }
 }
 
-/// The conditions that ask something of each entry and each individual that is not blocked.
-#[derive(Clone, Copy)]
+/// The conditions that ask something of each entry and each individual that is not blocked. A type of its own, so
+/// that a match on it needs no arms for the other four.
+#[derive(Clone, Copy, Debug, PartialEq, Eq)]
 pub enum EntryCondition {
     /// 3: a held BOTH has both parts held.
     BothParts,

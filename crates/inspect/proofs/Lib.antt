@@ -1,1 +1,2 @@
-pub mod Written
+-- Lemmas that the proofs share.
+pub mod PairWords

@@ -1,4 +1,3 @@
 pub mod Lists
 pub mod Report
 pub mod Words
-pub mod Written

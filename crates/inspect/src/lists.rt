@@ -1,74 +1,96 @@
 // All that a base holds: its counts, then list by list, a line for each row.
-ghost use Rattle.inspect.specs.Lists.{axiom_counts_line, base_text, list_text, name_counts_line, row_text};
-ghost use Rattle.inspect.specs.Written.{Wrote};
-ghost use Rattle.std.specs.Prelude.{string_bytes};
+ghost use Rattle.inspect.specs.Lists.{base_text, count_lines, list_text, row_text};
+ghost use Rattle.std.specs.Prelude.{Some};
 
-use crate::words::{write_assertion, write_entry, write_inclusion, write_key};
+use crate::words::Numbered;
 use kb::base::Base;
 use kb::counts::Counts;
 use kb::fault::RowList;
-use std::alloc::AllocError;
+use std::fmt::{self, Display};
 
-fn write_name_counts(out: &mut String, n: Counts) -> Result<(), AllocError>
-    ensures { Wrote result (string_bytes out.old) (name_counts_line n) (string_bytes out.new) }
-{
-    write!(
-        out,
-        "individuals {}, roles {}, entries {}\n",
-        n.individuals, n.roles, n.entries
-    )
-}
+// The counts of a base, in two lines.
+#[derive(Clone, Copy)]
+struct CountLines(Counts);
 
-fn write_axiom_counts(out: &mut String, n: Counts) -> Result<(), AllocError>
-    ensures { Wrote result (string_bytes out.old) (axiom_counts_line n) (string_bytes out.new) }
-{
-    write!(
-        out,
-        "assertions {}, inclusions {}, keys {}\n",
-        n.assertions, n.inclusions, n.keys
-    )
-}
+impl fmt::Display for CountLines {
+    ghost output = { λ lines. Some (count_lines lines.0) };
 
-fn write_row<B: Base>(out: &mut String, base: &B, list: RowList, k: u16) -> Result<(), AllocError>
-    ensures { Wrote result (string_bytes out.old) (row_text (B.meaning base.now) list k) (string_bytes out.new) }
-{
-    match list {
-        RowList::Entries => match base.entry(usize::from(k)) {
-            Ok(row) => write_entry(out, k, row),
-            Err(_) => Ok(()),
-        },
-        RowList::Assertions => match base.assertion(usize::from(k)) {
-            Ok(row) => write_assertion(out, k, row),
-            Err(_) => Ok(()),
-        },
-        RowList::Inclusions => match base.inclusion(usize::from(k)) {
-            Ok(row) => write_inclusion(out, k, row),
-            Err(_) => Ok(()),
-        },
-        RowList::Keys => match base.key(usize::from(k)) {
-            Ok(row) => write_key(out, k, row),
-            Err(_) => Ok(()),
-        },
+    fn fmt<W: fmt::Write>(&self, f: &mut fmt::Formatter<W>) -> fmt::Result {
+        let n = self.0;
+        write!(
+            f,
+            "individuals {}, roles {}, entries {}\n",
+            n.individuals, n.roles, n.entries
+        )?;
+        write!(
+            f,
+            "assertions {}, inclusions {}, keys {}\n",
+            n.assertions, n.inclusions, n.keys
+        )
     }
 }
 
-fn write_list<B: Base>(out: &mut String, base: &B, list: RowList) -> Result<(), AllocError>
-    ensures { Wrote result (string_bytes out.old) (list_text (B.meaning base.now) list) (string_bytes out.new) }
-{
-    for k in 0..base.counts().of(list) {
-        write_row(out, base, list, k)?;
+// Row k of a list, as a line; a row that is not there has none. No `map_or`: it would print from its closure, and says nothing of
+// what is printed where the closure is not called.
+#[derive(Clone, Copy)]
+struct Row<'b, B>(&'b B, RowList, u16);
+
+impl<B: Base> fmt::Display for Row<'_, B> {
+    ghost output = { λ row. Some (row_text (B.meaning row.0.now) row.1 row.2) };
+
+    fn fmt<W: fmt::Write>(&self, f: &mut fmt::Formatter<W>) -> fmt::Result {
+        let Row(base, list, k) = *self;
+        let n = usize::from(k);
+        match list {
+            RowList::Entries => match base.entry(n) {
+                Ok(row) => Numbered(k, row).fmt(f),
+                Err(_) => Ok(()),
+            },
+            RowList::Assertions => match base.assertion(n) {
+                Ok(row) => Numbered(k, row).fmt(f),
+                Err(_) => Ok(()),
+            },
+            RowList::Inclusions => match base.inclusion(n) {
+                Ok(row) => Numbered(k, row).fmt(f),
+                Err(_) => Ok(()),
+            },
+            RowList::Keys => match base.key(n) {
+                Ok(row) => Numbered(k, row).fmt(f),
+                Err(_) => Ok(()),
+            },
+        }
     }
-    Ok(())
 }
 
-pub(crate) fn write_base<B: Base>(out: &mut String, base: &B) -> Result<(), AllocError>
-    ensures { Wrote result (string_bytes out.old) (base_text (B.meaning base.now)) (string_bytes out.new) }
-{
-    let counts = base.counts();
-    write_name_counts(out, counts)?;
-    write_axiom_counts(out, counts)?;
-    write_list(out, base, RowList::Entries)?;
-    write_list(out, base, RowList::Assertions)?;
-    write_list(out, base, RowList::Inclusions)?;
-    write_list(out, base, RowList::Keys)
+// The rows of a list, a line each.
+#[derive(Clone, Copy)]
+struct Rows<'b, B>(&'b B, RowList);
+
+impl<B: Base> fmt::Display for Rows<'_, B> {
+    ghost output = { λ rows. Some (list_text (B.meaning rows.0.now) rows.1) };
+
+    fn fmt<W: fmt::Write>(&self, f: &mut fmt::Formatter<W>) -> fmt::Result {
+        let Rows(base, list) = *self;
+        for k in 0..base.counts().of(list) {
+            Row(base, list, k).fmt(f)?;
+        }
+        Ok(())
+    }
+}
+
+// All that a base holds.
+#[derive(Clone, Copy)]
+pub(crate) struct Contents<'b, B>(pub &'b B);
+
+impl<B: Base> fmt::Display for Contents<'_, B> {
+    ghost output = { λ all. Some (base_text (B.meaning all.0.now)) };
+
+    fn fmt<W: fmt::Write>(&self, f: &mut fmt::Formatter<W>) -> fmt::Result {
+        let base = self.0;
+        CountLines(base.counts()).fmt(f)?;
+        Rows(base, RowList::Entries).fmt(f)?;
+        Rows(base, RowList::Assertions).fmt(f)?;
+        Rows(base, RowList::Inclusions).fmt(f)?;
+        Rows(base, RowList::Keys).fmt(f)
+    }
 }

@@ -2,8 +2,8 @@
 ghost use Rattle.inspect.specs.Report.{report_text};
 ghost use Rattle.std.specs.Prelude.{◌≡◌, IfOk, string_bytes};
 
-use crate::answer::write_answer;
-use crate::lists::write_base;
+use crate::answer::Answer;
+use crate::lists::Contents;
 use casefile::file::CaseFile;
 use std::alloc::Global;
 use std::fmt;
@@ -13,8 +13,5 @@ pub fn inspect(heap: Global, bytes: &[u8]) -> Result<String, fmt::Error>
     ensures { IfOk result (λ text. string_bytes text ≡ report_text bytes.now) }
 {
     let file = CaseFile::new(bytes);
-    let mut text = String::new(heap);
-    write_base(&mut text, &file)?;
-    write_answer(&mut text, &file)?;
-    Ok(text)
+    Ok(format!(in heap; "{}{}", Contents(&file), Answer(&file))?)
 }

@@ -1,8 +1,6 @@
 -- Where the assertions of a record stand.
-use Rattle.std.proofs.Common.{◌≡◌, ℕ, zero, suc, ◌+◌, ◌-◌, ◌*◌, ◌/◌, ◌%◌, ◌<◌, min, Bool, true, cond, List, [], ◌∷◌, map, length, take, Ok, Err, sym, ap, ◌∙◌, ⊎_elim, arith}
-use lib.ListN.{length-map}
-use Rattle.std.proofs.lemmas.List.{take_all}
-use Rattle.std.proofs.lemmas.Bool.{cases_lt}
+use Rattle.std.proofs.Common.{◌≡◌, ℕ, zero, suc, ◌+◌, ◌-◌, ◌*◌, ◌/◌, ◌%◌, ◌<◌, min, Bool, true, cond, List, [], ◌∷◌, map, length, take, Ok, Err, sym, ap, ◌∙◌, arith}
+use Rattle.std.proofs.lemmas.List.{length-map, take_min}
 use Rattle.rows.specs.declared.fault.RowFault.{RowFault}
 use Rattle.rows.specs.declared.fault.RowFault.TheVariants.{NoSuchRow}
 use Rattle.rows.specs.Rows.{row_at}
@@ -44,16 +42,8 @@ module _ (f : Assertion → Assertion) (columns : Columns) (r : ℕ) where
   row-missing xs n NoSuchRow e =
       row_at-beyond (map f (rows_from columns r 0 xs)) n (omega (arith, length-map (rows_from columns r 0 xs) f, length-rows_from columns r 0 xs, row_at-refused xs (n / 4) NoSuchRow e))
 
--- a list cut at its length or at n is cut at n
-take_min : {X : Type 0} (n : ℕ) (xs : List X) → take (min (length xs) n) xs ≡ take n xs
-take_min n xs =
-    ⊎_elim
-    (λ h. let m : min (length xs) n ≡ length xs = omega arith in ap (λ k. take k xs) m ∙ take_all (length xs) xs (omega arith) ∙ sym (take_all n xs (omega arith)))
-    (λ h. let m : min (length xs) n ≡ n = omega arith in ap (λ k. take k xs) m)
-    (cases_lt (length xs) n)
-
 -- within the limits an inventory lists its records
-pub listed_meaning : (es : List Entry) (n : ℕ) (columns : Columns) (xs : List Record) (v k : ℕ) → true ≡ listed (length xs) v → k ≡ min (length es) 65535 → column_meaning (take k es) n columns xs v ≡ inventory_meaning es n columns xs v
+pub listed_meaning : (es : List Entry) (n : ℕ) (columns : Columns) (xs : List Record) (v k : ℕ) → true ≡ listed (length xs) v → k ≡ min 65535 (length es) → column_meaning (take k es) n columns xs v ≡ inventory_meaning es n columns xs v
 listed_meaning es n columns xs v k t e =
     ap (λ (l : List Entry). column_meaning l n columns xs v) (ap (λ (m : ℕ). take m es) e ∙ take_min 65535 es)
     ∙ ap (λ (b : Bool). cond b (column_meaning (take 65535 es) n columns xs v) empty_meaning) t

@@ -4,8 +4,17 @@ ghost use Rattle.std.specs.Prelude.{◌≤◌, length};
 use kb::lexicon::Entry;
 use kb::names::{Concept, Role};
 
+/// The longest lexicon that can be told: a longer one is cut there.
+pub(crate) const MOST_ENTRIES: usize = 65_535;
+
+/// An inventory with more records lists nothing.
+pub(crate) const MOST_RECORDS: usize = 100;
+
+/// An inventory with more values lists nothing.
+pub(crate) const MOST_VALUES: usize = 140;
+
 /// The role of each column: it joins a record to its value in the column.
-#[derive(Clone, Copy)]
+#[derive(Clone, Copy, Debug, PartialEq, Eq)]
 pub struct Columns {
     pub issuer: Role,
     pub serial: Role,
@@ -15,7 +24,7 @@ pub struct Columns {
 /// A record: its class, and the number of its value in each column.
 ///
 /// A value number may pass the inventory's own values: in a join it reaches an individual of the base on the right.
-#[derive(Clone, Copy)]
+#[derive(Clone, Copy, Debug, PartialEq, Eq)]
 pub struct Record {
     pub class: Concept,
     pub issuer: u16,

@@ -3,7 +3,8 @@
 #![tactic(auto)]
 
 ghost use Rattle.inventory.specs.Inventories.{contents_of, has_value, inventory_owed, inventory_meaning, listed, record_rows};
-ghost use Rattle.kb.specs.Telling.{tell_assertion, tell_entry};
+ghost use Rattle.kb.specs.Meanings.{empty_meaning};
+ghost use Rattle.kb.specs.Telling.{tell_assertion};
 ghost use Rattle.rows.specs.Rows.{row_at};
 ghost use Rattle.std.specs.Prelude.{◌≡◌, map};
 
@@ -17,13 +18,10 @@ use rows::RowFault;
 mod contents;
 
 pub use contents::{Columns, Inventory, Record};
+use contents::{MOST_ENTRIES, MOST_RECORDS, MOST_VALUES};
 
-// Numbers of 16 bits are told as they are.
-fn told_entry(e: Entry) -> Entry
-    ensures { result ≡ tell_entry e }
-{
-    e
-}
+// Each record gives four assertions: its class, and its value in each column.
+const ROWS_PER_RECORD: usize = 4;
 
 // Record i of so many has a value in a column.
 fn has_value(column: Role, count: u16, i: u16, value: u16) -> Assertion
@@ -41,13 +39,13 @@ impl Columns {
     fn row(&self, count: u16, i: u16, x: Record, k: usize) -> Result<Assertion, RowFault>
         ensures { result ≡ row_at (map tell_assertion (record_rows self.now count i x)) k }
     {
-        match k {
-            0 => Ok(Assertion::Is(x.class, Individual(i))),
-            1 => Ok(has_value(self.issuer, count, i, x.issuer)),
-            2 => Ok(has_value(self.serial, count, i, x.serial)),
-            3 => Ok(has_value(self.public_key, count, i, x.public_key)),
-            _ => Err(RowFault::NoSuchRow),
-        }
+        let given = [
+            Assertion::Is(x.class, Individual(i)),
+            has_value(self.issuer, count, i, x.issuer),
+            has_value(self.serial, count, i, x.serial),
+            has_value(self.public_key, count, i, x.public_key),
+        ];
+        rows::row(&given, k)
     }
 }
 
@@ -55,7 +53,7 @@ impl Columns {
 fn is_listed(records: usize, values: usize) -> bool
     ensures { result ≡ listed records values }
 {
-    records <= 100 && values <= 140
+    records <= MOST_RECORDS && values <= MOST_VALUES
 }
 
 impl<'a> Inventory<'a> {
@@ -70,20 +68,27 @@ impl<'a> Inventory<'a> {
         ensures { contents_of result ≡ inventory_meaning lexicon.now roles columns records.now values }
     {
         if !is_listed(records.len(), values) {
-            return Inventory {
-                lexicon: &[],
-                roles: 0,
-                columns,
-                records: &[],
-                values: 0,
-            };
+            return Inventory::empty(columns);
         }
         Inventory {
-            lexicon: &lexicon[0..lexicon.len().min(65_535)],
+            lexicon: &lexicon[0..lexicon.len().min(MOST_ENTRIES)],
             roles,
             columns,
             records,
             values,
+        }
+    }
+
+    // An inventory that lists nothing.
+    fn empty(columns: Columns) -> Inventory<'a>
+        ensures { contents_of result ≡ empty_meaning }
+    {
+        Inventory {
+            lexicon: &[],
+            roles: 0,
+            columns,
+            records: &[],
+            values: 0,
         }
     }
 }
@@ -98,20 +103,23 @@ impl Base for Inventory<'_> {
             entries: self.lexicon.len() as u16,
             roles: self.roles,
             individuals: (self.records.len() + self.values) as u16,
-            assertions: (4 * self.records.len()) as u16,
+            assertions: (ROWS_PER_RECORD * self.records.len()) as u16,
             inclusions: 0,
             keys: 0,
         }
     }
 
+    #[tactic(auto, using(rows::proofs::RowLaws::row_at_mapped))]
     fn entry(&self, n: usize) -> Result<Entry, RowFault> {
-        Ok(told_entry(rows::row(self.lexicon, n)?))
+        // The answer is unpacked and made anew: that numbers have 16 bits is known of a row, and not of the answer that
+        // holds it.
+        Ok(rows::row(self.lexicon, n)?)
     }
 
     fn assertion(&self, n: usize) -> Result<Assertion, RowFault> {
-        let x = rows::row(self.records, n / 4)?;
-        self.columns
-            .row(self.records.len() as u16, (n / 4) as u16, x, n % 4)
+        let i = n / ROWS_PER_RECORD;
+        let x = rows::row(self.records, i)?;
+        self.columns.row(self.records.len() as u16, i as u16, x, n % ROWS_PER_RECORD)
     }
 
     fn inclusion(&self, _n: usize) -> Result<Inclusion, RowFault> {

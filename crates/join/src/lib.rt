@@ -2,7 +2,7 @@
 // Nothing of sheets, steps or file formats belongs here.
 #![tactic(auto)]
 
-ghost use Rattle.join.specs.Joining.{join_owed, join_meaning, raised};
+ghost use Rattle.join.specs.Joining.{join_owed, join_meaning, raised, raised_individual};
 ghost use Rattle.join.specs.Lexicons.{JoinChecked};
 ghost use Rattle.rows.specs.Rows.{row_at};
 ghost use Rattle.std.specs.Prelude.{◌≡◌, map, Decides};
@@ -26,51 +26,24 @@ pub struct Join<L, R> {
     right: R,
 }
 
-// An assertion with its individuals raised. A raised number stops at 65,535.
+// An individual of the right base, behind so many of the left. A raised number stops at 65,535.
+fn raised_individual(x: Individual, by: u16) -> Individual
+    ensures { result ≡ raised_individual by x }
+{
+    Individual(by.saturating_add(x.0))
+}
+
+// An assertion with its individuals raised.
 fn raised(a: Assertion, by: u16) -> Assertion
     ensures { result ≡ raised by a }
 {
+    let up = |x| raised_individual(x, by);
     match a {
-        Assertion::Is(c, x) => Assertion::Is(c, Individual(by.saturating_add(x.0))),
-        Assertion::Joins(r, x, y) => Assertion::Joins(
-            r,
-            Individual(by.saturating_add(x.0)),
-            Individual(by.saturating_add(y.0)),
-        ),
-        Assertion::Same(x, y) => Assertion::Same(
-            Individual(by.saturating_add(x.0)),
-            Individual(by.saturating_add(y.0)),
-        ),
-        Assertion::Different(x, y) => Assertion::Different(
-            Individual(by.saturating_add(x.0)),
-            Individual(by.saturating_add(y.0)),
-        ),
+        Assertion::Is(c, x) => Assertion::Is(c, up(x)),
+        Assertion::Joins(r, x, y) => Assertion::Joins(r, up(x), up(y)),
+        Assertion::Same(x, y) => Assertion::Same(up(x), up(y)),
+        Assertion::Different(x, y) => Assertion::Different(up(x), up(y)),
         Assertion::Unlisted(kind) => Assertion::Unlisted(kind),
-    }
-}
-
-// Whether two entries are the same.
-fn same_entry(a: Entry, b: Entry) -> bool
-    ensures { Decides result (a ≡ b) }
-{
-    match (a, b) {
-        (Entry::Top, Entry::Top) => true,
-        (Entry::Name, Entry::Name) => true,
-        (Entry::Both(c, d), Entry::Both(e, f)) => c.0 == e.0 && d.0 == f.0,
-        (Entry::Some(r, c), Entry::Some(s, d)) => r.0 == s.0 && c.0 == d.0,
-        (Entry::Unlisted(k), Entry::Unlisted(j)) => k == j,
-        _ => false,
-    }
-}
-
-// Whether two answers for an entry are the same.
-fn same_answer(a: Result<Entry, RowFault>, b: Result<Entry, RowFault>) -> bool
-    ensures { Decides result (a ≡ b) }
-{
-    match (a, b) {
-        (Ok(a), Ok(b)) => same_entry(a, b),
-        (Err(_), Err(_)) => true,
-        _ => false,
     }
 }
 
@@ -78,12 +51,8 @@ fn same_answer(a: Result<Entry, RowFault>, b: Result<Entry, RowFault>) -> bool
 fn same_lexicon<L: Base, R: Base>(left: &L, right: &R) -> bool
     ensures { Decides result ((L.Base.meaning left.now).entries ≡ (R.Base.meaning right.now).entries) }
 {
-    for k in 0..left.counts().entries.max(right.counts().entries) {
-        if !same_answer(left.entry(usize::from(k)), right.entry(usize::from(k))) {
-            return false;
-        }
-    }
-    true
+    let longer = usize::from(left.counts().entries.max(right.counts().entries));
+    (0..longer).all(|k| left.entry(k) == right.entry(k))
 }
 
 impl<L: Base, R: Base> Join<L, R> {
@@ -96,21 +65,20 @@ impl<L: Base, R: Base> Join<L, R> {
     }
 
     // Assertion k of the right base, its individuals behind those of the left.
+    #[tactic(auto, using(rows::proofs::RowLaws::row_at_mapped))]
     fn right_assertion(&self, k: usize) -> Result<Assertion, RowFault>
         ensures { result ≡ row_at (map (raised (L.Base.meaning self.now.left).individuals) (R.Base.meaning self.now.right).assertions) k }
     {
         let by = self.left.counts().individuals;
-        Ok(raised(self.right.assertion(k)?, by))
+        self.right.assertion(k).map(|a| raised(a, by))
     }
 
-    /// Whether the two bases speak of the same lexicon and the same number of roles.
+    /// Whether the two bases have the same lexicon and the same number of roles.
     pub fn check(&self) -> Result<(), JoinFault>
         ensures { JoinChecked (L.Base.meaning self.now.left) (R.Base.meaning self.now.right) result }
     {
-        if self.left.counts().roles != self.right.counts().roles {
-            return Err(JoinFault::Differ);
-        }
-        if same_lexicon(&self.left, &self.right) {
+        let same_roles = self.left.counts().roles == self.right.counts().roles;
+        if same_roles && same_lexicon(&self.left, &self.right) {
             Ok(())
         } else {
             Err(JoinFault::Differ)

@@ -1,5 +1,5 @@
 -- The first failing number is the least one, and there is none exactly where no number fails.
-use Rattle.std.proofs.Common.{◌≡◌, ℕ, zero, suc, ◌<◌, Bool, true, false, ◌⊎◌, Some, None, refl, ap, ◌∙◌, inl, inr, ⊎_elim, arith}
+use Rattle.std.proofs.Common.{◌≡◌, ℕ, zero, suc, ◌<◌, ◌≤◌, Bool, true, false, ◌⊎◌, Some, None, Option, MatchOption, refl, sym, ap, ◌∙◌, inl, inr, ⊎_elim, arith}
 use Rattle.std.proofs.lemmas.Bool.{cases_eq, cases_Bool}
 use Rattle.kb.specs.First.{first_failing}
 
@@ -35,3 +35,8 @@ module _ (test : ℕ → Bool) where
       (λ p. ⊎_elim (λ t. inl (pass_more n p t)) (λ f. inr (n, (omega arith, f, p))) (cases_Bool (test n)))
       (λ s. inr (s.0, (omega (arith, s.1.0), s.1.1, s.1.2)))
       (pass_or_fails n)
+
+  -- what `find` answers over the numbers below a bound, where it looks for one that fails
+  pub first_failing-found : (n : ℕ) (r : Option ℕ) → MatchOption r ((k : ℕ) → 0 ≤ k → k < n → test k ≡ true) (λ i. (0 ≤ i) × (i < n) × (test i ≡ false) × ((k : ℕ) → 0 ≤ k → k < i → test k ≡ true)) → r ≡ first_failing test n
+  first_failing-found n None p = sym (first_failing-none n (λ k h. p k (omega arith) h))
+  first_failing-found n (Some i) (_, h, f, p) = sym (first_failing-some n i (h, f, λ k l. p k (omega arith) l))

@@ -1,5 +1,6 @@
 -- When a row is in range: it is of a listed kind, and names only what the base has.
-use Rattle.std.specs.Prelude.{ℕ, Bool, true, false, not, ◌&&◌, List, [], ◌∷◌, ◌==◌, nat_lt}
+use Rattle.std.specs.Prelude.{ℕ, Bool, false, not, ◌&&◌, ◌==◌, nat_lt}
+use Rattle.std.specs.List.{list_all}
 use Rattle.kb.specs.declared.axioms.Assertion.{Assertion}
 use Rattle.kb.specs.declared.axioms.Assertion.TheVariants.{Is, Joins, Same, Different, Unlisted as UnlistedAssertion}
 use Rattle.kb.specs.declared.axioms.Inclusion.{Inclusion}
@@ -51,12 +52,8 @@ abbrev pub pair_in_range : Counts → RolePair → Bool
 pair_in_range n p = role_in_range n p.left && role_in_range n p.right
 
 -- Each of one to four pairs is in range.
-abbrev pub each_pair_in_range : Counts → List RolePair → Bool
-each_pair_in_range n [] = true
-each_pair_in_range n (p ∷ ps) = pair_in_range n p && each_pair_in_range n ps
-
 abbrev pub pairs_in_range : Counts → RolePairs → Bool
-pairs_in_range n pairs = each_pair_in_range n (pair_list pairs)
+pairs_in_range n pairs = list_all (pair_in_range n) (pair_list pairs)
 
 -- A key has one to four pairs of roles, and its classes are concepts of the base.
 abbrev pub key_in_range : Counts → Key → Bool

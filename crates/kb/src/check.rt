@@ -33,60 +33,57 @@ impl Counts {
     }
 }
 
-// Whether row k of a list is there and in range.
-fn row_in_range<B: Base>(base: &B, counts: &Counts, list: RowList, k: usize) -> bool
-    ensures { result ≡ row_in_range counts.now (B.meaning base.now) list k }
-{
-    match list {
-        RowList::Entries => match base.entry(k) {
-            Ok(row) => counts.has_entry(k, row),
-            Err(_) => false,
-        },
-        RowList::Assertions => match base.assertion(k) {
-            Ok(row) => counts.has_assertion(row),
-            Err(_) => false,
-        },
-        RowList::Inclusions => match base.inclusion(k) {
-            Ok(row) => counts.has_inclusion(row),
-            Err(_) => false,
-        },
-        RowList::Keys => match base.key(k) {
-            Ok(row) => counts.has_key(row),
-            Err(_) => false,
-        },
-    }
+// A base, measured by the counts that it tells.
+#[derive(Drop)]
+struct Measured<'b, B> {
+    base: &'b B,
+    counts: Counts,
 }
 
-// The first row of a list that is out of range.
-fn first_out_of_range<B: Base>(base: &B, counts: &Counts, list: RowList) -> Option<u16>
-    ensures { result ≡ first_failing (row_in_range counts.now (B.meaning base.now) list) (count_of counts.now list) }
-{
-    for k in 0..counts.of(list) {
-        if !row_in_range(base, counts, list, usize::from(k)) {
-            return Some(k);
+impl<B: Base> Measured<'_, B> {
+    // Whether row k of a list is there and in range.
+    fn has_row(&self, list: RowList, k: usize) -> bool
+        ensures { result ≡ row_in_range self.now.counts (B.meaning self.now.base.now) list k }
+    {
+        let counts = &self.counts;
+        match list {
+            RowList::Entries => self.base.entry(k).is_ok_and(|row| counts.has_entry(k, row)),
+            RowList::Assertions => self
+                .base
+                .assertion(k)
+                .is_ok_and(|row| counts.has_assertion(row)),
+            RowList::Inclusions => self
+                .base
+                .inclusion(k)
+                .is_ok_and(|row| counts.has_inclusion(row)),
+            RowList::Keys => self.base.key(k).is_ok_and(|row| counts.has_key(row)),
         }
     }
-    None
-}
 
-fn check_list<B: Base>(base: &B, counts: &Counts, list: RowList) -> Result<(), BaseFault>
-    ensures { result ≡ checked_list counts.now (B.meaning base.now) list }
-{
-    match first_out_of_range(base, counts, list) {
-        None => Ok(()),
-        Some(k) => Err(BaseFault::Row(list, k)),
+    // The first row of a list that is out of range.
+    fn first_out_of_range(&self, list: RowList) -> Option<u16>
+        ensures { result ≡ first_failing (row_in_range self.now.counts (B.meaning self.now.base.now) list) (count_of self.now.counts list) }
+    {
+        (0..self.counts.of(list)).find(|k| !self.has_row(list, usize::from(*k)))
     }
-}
 
-// The lists one after the other.
-fn check_rows<B: Base>(base: &B, counts: Counts) -> Result<Counts, BaseFault>
-    ensures { result ≡ checked_rows counts (B.meaning base.now) }
-{
-    check_list(base, &counts, RowList::Entries)?;
-    check_list(base, &counts, RowList::Assertions)?;
-    check_list(base, &counts, RowList::Inclusions)?;
-    check_list(base, &counts, RowList::Keys)?;
-    Ok(counts)
+    fn check_list(&self, list: RowList) -> Result<(), BaseFault>
+        ensures { result ≡ checked_list self.now.counts (B.meaning self.now.base.now) list }
+    {
+        self.first_out_of_range(list)
+            .map_or(Ok(()), |k| Err(BaseFault::Row(list, k)))
+    }
+
+    // The lists one after the other.
+    fn check_rows(&self) -> Result<Counts, BaseFault>
+        ensures { result ≡ checked_rows self.now.counts (B.meaning self.now.base.now) }
+    {
+        self.check_list(RowList::Entries)?;
+        self.check_list(RowList::Assertions)?;
+        self.check_list(RowList::Inclusions)?;
+        self.check_list(RowList::Keys)?;
+        Ok(self.counts)
+    }
 }
 
 /// The counts of an accepted base, or why it is not accepted: a count outside its limits, else the first row out of range.
@@ -96,7 +93,7 @@ pub fn check_base<B: Base>(base: &B) -> Result<Counts, BaseFault>
 {
     let counts = base.counts();
     if counts.accepted() {
-        check_rows(base, counts)
+        Measured { base, counts }.check_rows()
     } else {
         Err(BaseFault::Size)
     }

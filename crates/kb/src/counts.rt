@@ -1,7 +1,7 @@
 // How many of each a base has.
 
 /// The six counts of a base. None passes 65,535.
-#[derive(Clone, Copy)]
+#[derive(Clone, Copy, Debug, Default, PartialEq, Eq)]
 pub struct Counts {
     pub entries: u16,
     pub roles: u16,

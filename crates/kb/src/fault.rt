@@ -3,16 +3,16 @@ ghost use Rattle.kb.specs.Check.{base_fault_numbers, list_number};
 ghost use Rattle.std.specs.Prelude.{◌≡◌, slice_index};
 
 /// The four lists of rows, in the order in which they are checked; their numbers are 0 to 3.
-#[derive(Clone, Copy)]
+#[derive(Clone, Copy, Debug, PartialEq, Eq)]
 pub enum RowList {
-    Entries,
-    Assertions,
-    Inclusions,
-    Keys,
+    Entries = 0,
+    Assertions = 1,
+    Inclusions = 2,
+    Keys = 3,
 }
 
 /// Why a base is not accepted.
-#[derive(Clone, Copy)]
+#[derive(Clone, Copy, Debug, PartialEq, Eq)]
 pub enum BaseFault {
     /// A count is not accepted: 4.
     Size,
@@ -25,17 +25,12 @@ impl RowList {
     pub fn number(self) -> u16
         ensures { result ≡ list_number self }
     {
-        match self {
-            RowList::Entries => 0,
-            RowList::Assertions => 1,
-            RowList::Inclusions => 2,
-            RowList::Keys => 3,
-        }
+        self as u16
     }
 }
 
 impl BaseFault {
-    /// The first of the numbers that the fault is told by.
+    /// The first of the numbers that the fault is told by. They are published (docs/NUMBERS.md).
     pub fn number(self) -> u16
         ensures { result ≡ slice_index (base_fault_numbers self) 0 }
     {

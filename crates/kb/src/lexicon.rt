@@ -2,7 +2,7 @@
 use crate::names::{Concept, Role};
 
 /// An entry of the lexicon: what a concept is built from.
-#[derive(Clone, Copy)]
+#[derive(Clone, Copy, Debug, PartialEq, Eq)]
 pub enum Entry {
     /// Everything; its complement is nothing.
     Top,

@@ -3,15 +3,15 @@ ghost use Rattle.std.specs.Prelude.{◌≡◌};
 ghost use Rattle.kb.specs.Names.{OtherOfEntry, complement, entry_number};
 
 /// An individual of a base or a sheet.
-#[derive(Clone, Copy)]
+#[derive(Clone, Copy, Debug, Default, PartialEq, Eq, PartialOrd, Ord)]
 pub struct Individual(pub u16);
 
 /// A role of a base.
-#[derive(Clone, Copy)]
+#[derive(Clone, Copy, Debug, Default, PartialEq, Eq, PartialOrd, Ord)]
 pub struct Role(pub u16);
 
 /// A concept. Entry k of the lexicon gives two: 2k is the entry itself, 2k+1 its complement.
-#[derive(Clone, Copy)]
+#[derive(Clone, Copy, Debug, Default, PartialEq, Eq, PartialOrd, Ord)]
 pub struct Concept(pub u16);
 
 impl Concept {

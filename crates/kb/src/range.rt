@@ -37,15 +37,7 @@ impl Counts {
     fn has_pairs(&self, pairs: RolePairs) -> bool
         ensures { result ≡ pairs_in_range self.now pairs }
     {
-        match pairs {
-            RolePairs::One(p) => self.has_pair(p),
-            RolePairs::Two(p, q) => self.has_pair(p) && self.has_pair(q),
-            RolePairs::Three(p, q, s) => self.has_pair(p) && self.has_pair(q) && self.has_pair(s),
-            RolePairs::Four(p, q, s, t) => self.has_pair(p)
-                && self.has_pair(q)
-                && self.has_pair(s)
-                && self.has_pair(t),
-        }
+        pairs.list().iter().all(|p| self.has_pair(*p))
     }
 
     pub(crate) fn has_entry(&self, k: usize, e: Entry) -> bool

@@ -3,7 +3,7 @@ use crate::axioms::{Inclusion, RolePairs};
 use crate::names::{Concept, Individual};
 
 /// A statement that may follow from a base.
-#[derive(Clone, Copy)]
+#[derive(Clone, Copy, Debug, PartialEq, Eq)]
 pub enum Statement {
     /// The key with two classes and these pairs of roles.
     Key(Concept, Concept, RolePairs),

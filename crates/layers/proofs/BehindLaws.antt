@@ -1,5 +1,6 @@
 -- Where a row of a list behind another stands.
 use Rattle.std.proofs.Common.{◌≡◌, ℕ, ◌+◌, ◌-◌, ◌<◌, ◌≤◌, List, ◌++◌, length, Ok, Err, Result, sym, ◌∙◌, arith, length-append, length-take}
+use Rattle.std.specs.Result.{result_or}
 use Rattle.rows.specs.declared.fault.RowFault.{RowFault}
 use Rattle.rows.specs.declared.fault.RowFault.TheVariants.{NoSuchRow}
 use Rattle.rows.specs.Rows.{row_at}
@@ -24,11 +25,9 @@ module _ {X : Type 0} (xs ys : List X) where
     behind-cut h = row_at-beyond (behind xs ys) n (simp length-take (omega arith))
 
     -- the same from the two answers
-    pub found_first : (x : X) → length xs ≤ 65535 → Ok x ≡ row_at xs n → Ok x ≡ row_at (behind xs ys) n
-    found_first x s e = e ∙ sym (behind-first s (row_at-found xs n x (sym e)))
+    pub behind-or : (first second : Result X RowFault) → length xs ≤ 65535 → n < 65535 → first ≡ row_at xs n → second ≡ row_at ys (n - length xs) → result_or first second ≡ row_at (behind xs ys) n
+    behind-or (Ok x) second s h e f = e ∙ sym (behind-first s (row_at-found xs n x (sym e)))
+    behind-or (Err a) second s h e f = f ∙ sym (behind-second h (row_at-refused xs n a (sym e)))
 
-    pub found-second : (r : Result X RowFault) (f : RowFault) → n < 65535 → Err f ≡ row_at xs n → r ≡ row_at ys (n - length xs) → r ≡ row_at (behind xs ys) n
-    found-second r f h e s = s ∙ sym (behind-second h (row_at-refused xs n f (sym e)))
-
-    pub found_none : (f : RowFault) → 65535 ≤ n → Err f ≡ row_at (behind xs ys) n
-    found_none NoSuchRow h = sym (behind-cut h)
+    pub behind-past : (first : Result X RowFault) → length xs ≤ 65535 → 65535 ≤ n → first ≡ row_at xs n → first ≡ row_at (behind xs ys) n
+    behind-past first s h e = e ∙ row_at-beyond xs n (omega arith) ∙ sym (behind-cut h)

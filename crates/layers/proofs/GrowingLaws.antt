@@ -1,6 +1,8 @@
 -- What one pair more makes of a key's pairs and of the keys of a layer.
-use Rattle.std.proofs.Common.{◌≡◌, ℕ, zero, suc, ◌<◌, ◌≤◌, List, [], ◌∷◌, ◌++◌, map, length, set, Ok, Err, Result, sym, refl, ap, ◌∙◌, arith}
-use lib.ListN.{length-map}
+use Rattle.std.proofs.Common.{◌≡◌, ℕ, zero, suc, ◌<◌, ◌≤◌, List, [], ◌∷◌, ◌++◌, map, length, take, drop, set, Ok, Err, Result, sym, refl, ap, ◌∙◌, arith}
+use Rattle.std.proofs.lemmas.List.{length-map, length-set}
+use Rattle.std.proofs.Math.Seq.{take-append_seam}
+use Rattle.std.specs.List.{refill}
 use Rattle.std.specs.Result.{result_map_both}
 use Rattle.rows.specs.declared.fault.RowFault.{RowFault}
 use Rattle.rows.specs.declared.fault.RowFault.TheVariants.{NoSuchRow}
@@ -15,6 +17,11 @@ use Rattle.layers.specs.declared.fault.LayerFault.TheVariants.{Full, Row}
 use Rattle.layers.specs.declared.rules.LinkKey.{LinkKey}
 use Rattle.layers.specs.Growing.{with_pair, PairMore, KeyGrown}
 use Rattle.layers.specs.Views.{link_of}
+
+-- a list written at one place, as a slice, is the list with that place set
+pub refill-set : {X : Type 0} (xs : List X) (n : ℕ) (y : X) → refill (length xs) xs (set xs n y) ≡ set xs n y
+refill-set xs n y =
+    ap (λ m. take m (set xs n y ++ drop (length (set xs n y)) xs)) (sym (length-set xs n y)) ∙ take-append_seam (set xs n y) _
 
 pub row_at-set-same : {X : Type 0} (xs : List X) (n : ℕ) (x y : X) → row_at xs n ≡ Ok x → row_at (set xs n y) n ≡ Ok y
 row_at-set-same [] n x y e = let z : ◌≡◌ {A = ℕ} 0 1 = cc in absurd (omega arith)

@@ -1,3 +1,2 @@
 pub mod BehindLaws
 pub mod GrowingLaws
-pub mod TableLaws

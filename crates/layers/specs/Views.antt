@@ -5,7 +5,6 @@ use Rattle.kb.specs.declared.axioms.Key.{Key}
 use Rattle.kb.specs.declared.axioms.Key.TheVariants.{Link}
 use Rattle.layers.specs.declared.rules.LinkKey.{LinkKey}
 use Rattle.layers.specs.declared.rules.Rules.{Rules}
-use Rattle.layers.specs.Tables.{listed}
 
 -- The key that a layer keeps in parts.
 abbrev pub link_of : LinkKey → Key
@@ -14,8 +13,8 @@ link_of k = Link k.first k.second k.pairs
 module _ {B : Type 0} where
   -- The inclusions that were added to a layer of rules, first to last.
   abbrev pub own_inclusions : Rules B → List Inclusion
-  own_inclusions l = listed l.inclusions
+  own_inclusions l = l.inclusions.items
 
   -- The keys that were added, as they have grown.
   abbrev pub own_keys : Rules B → List Key
-  own_keys l = map link_of (listed l.keys)
+  own_keys l = map link_of l.keys.items

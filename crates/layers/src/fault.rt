@@ -6,7 +6,7 @@ ghost use Rattle.std.specs.Prelude.{◌≡◌, slice_index};
 use rows::RowFault;
 
 /// Why a layer refuses to change.
-#[derive(Clone, Copy)]
+#[derive(Clone, Copy, Debug, PartialEq, Eq)]
 pub enum LayerFault {
     /// There is no room for one more: 3.
     Full,
@@ -23,7 +23,7 @@ impl From<RowFault> for LayerFault {
 }
 
 impl LayerFault {
-    /// The number that the fault is told by.
+    /// The number that the fault is told by. It is published (docs/NUMBERS.md).
     pub fn number(self) -> u16
         ensures { result ≡ slice_index (layer_fault_numbers self) 0 }
     {

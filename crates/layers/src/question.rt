@@ -1,5 +1,5 @@
 // A base that asks whether a statement follows from the base below: it adds what denies the statement.
-ghost use Rattle.std.specs.Prelude.{◌≡◌, ℕ, map, length, Err};
+ghost use Rattle.std.specs.Prelude.{◌≡◌, ℕ, map, length, OnErr};
 ghost use Rattle.kb.specs.Questions.{asking, denial, new_individuals};
 ghost use Rattle.kb.specs.Telling.{tell_assertion};
 ghost use Rattle.kb.specs.declared.statement.Statement.TheVariants.{Key as AskedKey};
@@ -9,7 +9,7 @@ ghost use Rattle.rows.specs.Rows.{row_at};
 
 use crate::behind::behind;
 use crate::fault::LayerFault;
-use crate::pairs::{pair_at, with_pair};
+use crate::pairs::with_pair;
 use kb::axioms::{Assertion, Inclusion, Key, RolePair, RolePairs};
 use kb::base::Base;
 use kb::counts::Counts;
@@ -37,20 +37,22 @@ fn key_denial(
 {
     let x = Individual(n);
     let y = Individual(n.saturating_add(1));
-    match k {
-        0 => Ok(Assertion::Is(c, x)),
-        1 => Ok(Assertion::Is(d, y)),
-        2 => Ok(Assertion::Different(x, y)),
-        _ => {
-            let j = (k - 3) / 2;
-            let pair = pair_at(pairs, j)?;
-            let z = Individual(n.saturating_add(2 + j as u16));
-            if k % 2 == 1 {
-                Ok(Assertion::Joins(pair.left, x, z))
-            } else {
-                Ok(Assertion::Joins(pair.right, y, z))
-            }
-        }
+    let classes = [
+        Assertion::Is(c, x),
+        Assertion::Is(d, y),
+        Assertion::Different(x, y),
+    ];
+    if k < classes.len() {
+        return Ok(classes[k]);
+    }
+    // Each pair joins x and y, in a row of its own each, to a new individual z.
+    let k = k - classes.len();
+    let pair = rows::row(&pairs.list(), k / 2)?;
+    let z = Individual(n.saturating_add(2 + (k / 2) as u16));
+    if k % 2 == 0 {
+        Ok(Assertion::Joins(pair.left, x, z))
+    } else {
+        Ok(Assertion::Joins(pair.right, y, z))
     }
 }
 
@@ -58,32 +60,39 @@ fn key_denial(
 fn denial_row(n: u16, statement: Statement, k: usize) -> Result<Assertion, RowFault>
     ensures { result ≡ row_at (map tell_assertion (denial n statement)) k }
 {
+    let x = Individual(n);
     match statement {
         Statement::Key(c, d, pairs) => key_denial(n, c, d, pairs, k),
-        Statement::Inclusion(i) => match k {
-            0 => Ok(Assertion::Is(i.sub, Individual(n))),
-            1 => Ok(Assertion::Is(i.sup.complement(), Individual(n))),
-            _ => Err(RowFault::NoSuchRow),
-        },
-        Statement::Same(a, b) => match k {
-            0 => Ok(Assertion::Different(a, b)),
-            _ => Err(RowFault::NoSuchRow),
-        },
+        Statement::Inclusion(i) => rows::row(
+            &[
+                Assertion::Is(i.sub, x),
+                Assertion::Is(i.sup.complement(), x),
+            ],
+            k,
+        ),
+        Statement::Same(a, b) => rows::row(&[Assertion::Different(a, b)], k),
     }
 }
 
-// How many individuals and assertions a denial adds.
-fn denial_sizes(statement: Statement) -> (u16, u16)
-    ensures individuals { result.0 ≡ new_individuals statement }
-    ensures assertions { (n : ℕ) → result.1 ≡ length (denial n statement) }
+// How many individuals the denial of a statement adds.
+fn new_individuals(statement: Statement) -> u16
+    ensures { result ≡ new_individuals statement }
 {
     match statement {
-        Statement::Key(_, _, RolePairs::One(_)) => (3, 5),
-        Statement::Key(_, _, RolePairs::Two(_, _)) => (4, 7),
-        Statement::Key(_, _, RolePairs::Three(_, _, _)) => (5, 9),
-        Statement::Key(_, _, RolePairs::Four(_, _, _, _)) => (6, 11),
-        Statement::Inclusion(_) => (1, 2),
-        Statement::Same(_, _) => (0, 1),
+        Statement::Key(_, _, pairs) => 2 + pairs.list().len() as u16,
+        Statement::Inclusion(_) => 1,
+        Statement::Same(_, _) => 0,
+    }
+}
+
+// How many assertions deny a statement, over any number of individuals.
+fn denial_length(statement: Statement) -> u16
+    ensures { (n : ℕ) → result ≡ length (denial n statement) }
+{
+    match statement {
+        Statement::Key(_, _, pairs) => 3 + 2 * pairs.list().len() as u16,
+        Statement::Inclusion(_) => 2,
+        Statement::Same(_, _) => 1,
     }
 }
 
@@ -100,16 +109,14 @@ impl<B: Base> Question<B> {
     pub fn grow(&mut self, pair: RolePair) -> Result<(), LayerFault>
         ensures statement { StatementGrown pair self.old.statement result self.new.statement }
         ensures below { self.new.below ≡ self.old.below }
-        ensures refused { (f : LayerFault) → result ≡ Err f → self.new ≡ self.old }
+        ensures refused { OnErr result (self.new ≡ self.old) }
     {
-        match self.statement {
-            Statement::Key(c, d, pairs) => {
-                let more = with_pair(pairs, pair)?;
-                self.statement = Statement::Key(c, d, more);
-                Ok(())
-            }
-            _ => Err(LayerFault::Row(RowFault::NoSuchRow)),
-        }
+        let Statement::Key(c, d, pairs) = self.statement else {
+            return Err(LayerFault::Row(RowFault::NoSuchRow));
+        };
+        let more = with_pair(pairs, pair)?;
+        self.statement = Statement::Key(c, d, more);
+        Ok(())
     }
 }
 
@@ -120,10 +127,13 @@ impl<B: Base> Base for Question<B> {
 
     fn counts(&self) -> Counts {
         let below = self.below.counts();
-        let (individuals, assertions) = denial_sizes(self.statement);
         Counts {
-            individuals: below.individuals.saturating_add(individuals),
-            assertions: below.assertions.saturating_add(assertions),
+            individuals: below
+                .individuals
+                .saturating_add(new_individuals(self.statement)),
+            assertions: below
+                .assertions
+                .saturating_add(denial_length(self.statement)),
             ..below
         }
     }

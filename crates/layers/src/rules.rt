@@ -8,47 +8,56 @@ ghost use Rattle.layers.specs.Owing.{rules_owed};
 ghost use Rattle.layers.specs.Tables.{OneMore};
 ghost use Rattle.layers.specs.Views.{link_of, own_inclusions, own_keys};
 ghost use Rattle.rows.specs.Rows.{row_at};
-ghost use Rattle.std.specs.Prelude.{◌≡◌, [], map, Err};
+ghost use Rattle.std.specs.Prelude.{◌≡◌, [], map, OnErr};
 
 use crate::behind::behind;
 use crate::fault::LayerFault;
 use crate::pairs::with_pair;
-use crate::table::Table;
+use crate::table::add_row;
+use arrayvec::ArrayVec;
 use kb::axioms::{Assertion, Inclusion, Key, RolePair, RolePairs};
 use kb::base::Base;
 use kb::counts::Counts;
 use kb::lexicon::Entry;
-use kb::names::{Concept, Role};
+use kb::names::Concept;
 use rows::RowFault;
 
 /// A key of a layer: two classes and one to four pairs.
-#[derive(Clone, Copy)]
+#[derive(Clone, Copy, Debug, PartialEq, Eq)]
 pub(crate) struct LinkKey {
     first: Concept,
     second: Concept,
     pairs: RolePairs,
 }
 
+/// What stands in the unused places of a layer.
+///
+/// Written by hand: RolePairs has no default to derive it from, as a key has one to four pairs.
+impl Default for LinkKey {
+    fn default() -> LinkKey {
+        LinkKey {
+            first: Concept::default(),
+            second: Concept::default(),
+            pairs: RolePairs::One(RolePair::default()),
+        }
+    }
+}
+
+/// A key of the layer, told as a key of a base.
+impl From<LinkKey> for Key {
+    ghost from_gives = { λ key r. r ≡ tell_key (link_of key) };
+
+    fn from(key: LinkKey) -> Key {
+        Key::Link(key.first, key.second, key.pairs)
+    }
+}
+
 /// A base, with up to 32 inclusions and 8 keys of the layer's own.
 #[derive(Drop)]
 pub struct Rules<B> {
     below: B,
-    inclusions: Table<Inclusion, 32>,
-    keys: Table<LinkKey, 8>,
-}
-
-// Numbers of 16 bits are told as they are.
-fn told_inclusion(i: Inclusion) -> Inclusion
-    ensures { result ≡ tell_inclusion i }
-{
-    i
-}
-
-// A key of the layer, told as a key of a base.
-fn told_key(key: LinkKey) -> Key
-    ensures { result ≡ tell_key (link_of key) }
-{
-    Key::Link(key.first, key.second, key.pairs)
+    inclusions: ArrayVec<Inclusion, 32>,
+    keys: ArrayVec<LinkKey, 8>,
 }
 
 impl<B: Base> Rules<B> {
@@ -58,20 +67,10 @@ impl<B: Base> Rules<B> {
         ensures inclusions { own_inclusions result ≡ [] }
         ensures keys { own_keys result ≡ [] }
     {
-        let top = Concept(0);
-        let pairs = RolePairs::One(RolePair {
-            left: Role(0),
-            right: Role(0),
-        });
-        let key = LinkKey {
-            first: top,
-            second: top,
-            pairs,
-        };
         Rules {
             below,
-            inclusions: Table::empty(Inclusion { sub: top, sup: top }),
-            keys: Table::empty(key),
+            inclusions: ArrayVec::new(),
+            keys: ArrayVec::new(),
         }
     }
 
@@ -80,9 +79,9 @@ impl<B: Base> Rules<B> {
         ensures inclusions { OneMore 32 inclusion (own_inclusions self.old) result (own_inclusions self.new) }
         ensures keys { own_keys self.new ≡ own_keys self.old }
         ensures below { self.new.below ≡ self.old.below }
-        ensures refused { (f : LayerFault) → result ≡ Err f → self.new ≡ self.old }
+        ensures refused { OnErr result (self.new ≡ self.old) }
     {
-        self.inclusions.push(inclusion)
+        add_row(&mut self.inclusions, inclusion)
     }
 
     /// One key more, with one pair, behind the layer's own. The answer is its number among them, from 0.
@@ -95,13 +94,14 @@ impl<B: Base> Rules<B> {
         ensures keys { OneMore 8 (Link first second (One pair)) (own_keys self.old) result (own_keys self.new) }
         ensures inclusions { own_inclusions self.new ≡ own_inclusions self.old }
         ensures below { self.new.below ≡ self.old.below }
-        ensures refused { (f : LayerFault) → result ≡ Err f → self.new ≡ self.old }
+        ensures refused { OnErr result (self.new ≡ self.old) }
     {
-        self.keys.push(LinkKey {
+        let key = LinkKey {
             first,
             second,
             pairs: RolePairs::One(pair),
-        })
+        };
+        add_row(&mut self.keys, key)
     }
 
     /// One pair more, behind those of the layer's own key of this number.
@@ -109,26 +109,29 @@ impl<B: Base> Rules<B> {
         ensures keys { KeyGrown number pair (own_keys self.old) result (own_keys self.new) }
         ensures inclusions { own_inclusions self.new ≡ own_inclusions self.old }
         ensures below { self.new.below ≡ self.old.below }
-        ensures refused { (f : LayerFault) → result ≡ Err f → self.new ≡ self.old }
+        ensures refused { OnErr result (self.new ≡ self.old) }
     {
-        let key = self.keys.row(number)?;
+        let key = rows::row(&self.keys, number)?;
         let pairs = with_pair(key.pairs, pair)?;
-        self.keys.put(number, LinkKey { pairs, ..key });
+        self.keys[number] = LinkKey { pairs, ..key };
         Ok(())
     }
 
-    // Inclusion k of the layer's own.
+    // Inclusion k of the layer's own. The answer is unpacked and made anew: that numbers have 16 bits is known of a row, and
+    // not of the answer that holds it.
+    #[tactic(auto, using(rows::proofs::RowLaws::row_at_mapped))]
     fn own_inclusion(&self, k: usize) -> Result<Inclusion, RowFault>
         ensures { result ≡ row_at (map tell_inclusion (own_inclusions self.now)) k }
     {
-        Ok(told_inclusion(self.inclusions.row(k)?))
+        Ok(rows::row(&self.inclusions, k)?)
     }
 
     // Key k of the layer's own.
+    #[tactic(auto, using(rows::proofs::RowLaws::row_at_mapped_twice))]
     fn own_key(&self, k: usize) -> Result<Key, RowFault>
         ensures { result ≡ row_at (map tell_key (own_keys self.now)) k }
     {
-        Ok(told_key(self.keys.row(k)?))
+        rows::row(&self.keys, k).map(Key::from)
     }
 }
 
@@ -142,8 +145,8 @@ impl<B: Base> Base for Rules<B> {
         Counts {
             inclusions: below
                 .inclusions
-                .saturating_add(self.inclusions.count() as u16),
-            keys: below.keys.saturating_add(self.keys.count() as u16),
+                .saturating_add(self.inclusions.len() as u16),
+            keys: below.keys.saturating_add(self.keys.len() as u16),
             ..below
         }
     }

@@ -1,13 +1,19 @@
-// A table: up to N rows, kept in order in the first slots of an array.
-ghost use Rattle.std.specs.Prelude.{◌≡◌, ◌≤◌, length};
+// One row more in a list of fixed room.
+ghost use Rattle.layers.specs.Tables.{OneMore};
+ghost use Rattle.std.specs.Prelude.{◌≡◌, OnErr};
 
-mod calls;
+use crate::fault::LayerFault;
+use arrayvec::ArrayVec;
 
-/// Up to `N` rows.
-#[derive(Drop)]
-pub(crate) struct Table<T, const N: usize> {
-    slots: [T; N],
-    used: usize,
-    ghost full: { length slots ≡ N },
-    ghost within: { used ≤ N },
+/// One row more behind the others, unless there is no room. The answer is its number.
+pub(crate) fn add_row<T: Copy, const N: usize>(
+    list: &mut ArrayVec<T, N>,
+    row: T,
+) -> Result<usize, LayerFault>
+    ensures rows { OneMore N row list.old.items result list.new.items }
+    ensures refused { OnErr result (list.new ≡ list.old) }
+{
+    let number = list.len();
+    list.try_push(row).map_err(|_| LayerFault::Full)?;
+    Ok(number)
 }

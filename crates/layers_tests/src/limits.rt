@@ -1,7 +1,8 @@
 // The limits of an inventory and of the layers: the last that is accepted and the first that is not.
 use crate::many::Many;
+use crate::pile::COLUMNS;
 use crate::show::{show_base, show_counts, show_last, show_rows};
-use inventory::{Columns, Inventory, Record};
+use inventory::{Inventory, Record};
 use join::Join;
 use kb::axioms::{Inclusion, RolePair, RolePairs};
 use kb::base::Base;
@@ -12,13 +13,7 @@ use kb::statement::Statement;
 use layers::fault::LayerFault;
 use layers::question::Question;
 use layers::rules::Rules;
-use std::io;
-
-const COLUMNS: Columns = Columns {
-    issuer: Role(0),
-    serial: Role(1),
-    public_key: Role(2),
-};
+use std::{fmt, io};
 
 const RECORD: Record = Record {
     class: Concept(2),
@@ -70,45 +65,44 @@ pub fn inventories(rt: &HostRuntime) -> io::Result<()> {
     long_lexicon(rt)
 }
 
-/// What a change answers: a number, or why it is refused.
-fn told(answer: Result<usize, LayerFault>) -> (bool, usize) {
-    match answer {
-        Ok(number) => (true, number),
-        Err(fault) => (false, usize::from(fault.number())),
+/// The answer of an addition, printed as whether it was made, and the row's number or the refusal's.
+#[derive(Clone, Copy)]
+struct Told(Result<usize, LayerFault>);
+
+impl fmt::Display for Told {
+    fn fmt<W: fmt::Write>(&self, f: &mut fmt::Formatter<W>) -> fmt::Result {
+        match self.0 {
+            Ok(number) => write!(f, "(true, {number})"),
+            Err(fault) => write!(f, "(false, {})", fault.number()),
+        }
     }
 }
 
-/// Adds so many inclusions, and tells the last answer.
-fn add_inclusions<B: Base>(rules: &mut Rules<B>, times: u16) -> (bool, usize) {
-    let mut last = (false, 0);
-    for n in 0..times {
-        last = told(rules.add_inclusion(Inclusion {
+/// The number of a refusal. In the line that is printed 0 stands for no refusal.
+fn refusal(answer: Result<(), LayerFault>) -> u16 {
+    answer.map_or_else(LayerFault::number, |()| 0)
+}
+
+/// Adds so many inclusions. The last answer, or the first refusal.
+fn add_inclusions<B: Base>(rules: &mut Rules<B>, times: u16) -> Result<usize, LayerFault> {
+    (0..times).try_fold(0, |_, n| {
+        rules.add_inclusion(Inclusion {
             sub: Concept(n),
             sup: Concept(n.saturating_add(100)),
-        }));
-    }
-    last
+        })
+    })
 }
 
-/// Adds so many keys, each with one pair, and tells the last answer.
-fn add_keys<B: Base>(rules: &mut Rules<B>, times: u16) -> (bool, usize) {
-    let mut last = (false, 0);
-    for n in 0..times {
-        last = told(rules.add_key(Concept(n), Concept(n.saturating_add(100)), pair(n)));
-    }
-    last
+/// Adds so many keys, each with one pair. The last answer, or the first refusal.
+fn add_keys<B: Base>(rules: &mut Rules<B>, times: u16) -> Result<usize, LayerFault> {
+    (0..times).try_fold(0, |_, n| {
+        rules.add_key(Concept(n), Concept(n.saturating_add(100)), pair(n))
+    })
 }
 
-/// Gives a key so many pairs, and tells the last refusal, or 0.
-fn grow<B: Base>(rules: &mut Rules<B>, number: usize, times: u16) -> u16 {
-    let mut last = 0;
-    for n in 0..times {
-        last = match rules.grow_key(number, pair(n)) {
-            Ok(()) => 0,
-            Err(fault) => fault.number(),
-        };
-    }
-    last
+/// Gives a key so many pairs, until one is refused.
+fn grow<B: Base>(rules: &mut Rules<B>, number: usize, times: u16) -> Result<(), LayerFault> {
+    (0..times).try_for_each(|n| rules.grow_key(number, pair(n)))
 }
 
 /// Rules over two rows: 33 inclusions, 9 keys and a fifth pair.
@@ -118,18 +112,20 @@ pub fn rules(rt: &HostRuntime) -> io::Result<()> {
         rows: 2,
     });
     let unknown = grow(&mut rules, 0, 1);
-    let inclusions = [
-        add_inclusions(&mut rules, 32),
-        add_inclusions(&mut rules, 1),
-    ];
-    let keys = [add_keys(&mut rules, 8), add_keys(&mut rules, 1)];
+    let inclusions = Told(add_inclusions(&mut rules, 32));
+    let inclusion_more = Told(add_inclusions(&mut rules, 1));
+    let keys = Told(add_keys(&mut rules, 8));
+    let key_more = Told(add_keys(&mut rules, 1));
     let pairs = [
         unknown,
         grow(&mut rules, 6, 3),
         grow(&mut rules, 6, 1),
         grow(&mut rules, 8, 1),
     ];
-    println!(rt; "inclusions {inclusions:?}, keys {keys:?}, pairs {pairs:?}")?;
+    println!(rt;
+        "inclusions [{inclusions}, {inclusion_more}], keys [{keys}, {key_more}], pairs {:?}",
+        pairs.map(refusal)
+    )?;
     show_counts(rt, "rules", &rules)?;
     show_rows(rt, &rules, RowList::Inclusions, &[1, 2, 33, 34])?;
     show_rows(rt, &rules, RowList::Keys, &[1, 2, 7, 8, 9, 10])
@@ -143,9 +139,9 @@ const MANY: Many = Many {
 /// Layers whose sums pass 65,535.
 pub fn sums(rt: &HostRuntime) -> io::Result<()> {
     let mut rules = Rules::new(MANY);
-    let inclusions = add_inclusions(&mut rules, 3);
-    let keys = add_keys(&mut rules, 3);
-    println!(rt; "inclusions {inclusions:?}, keys {keys:?}")?;
+    let inclusions = Told(add_inclusions(&mut rules, 3));
+    let keys = Told(add_keys(&mut rules, 3));
+    println!(rt; "inclusions {inclusions}, keys {keys}")?;
     show_last(rt, "rules", &rules)?;
     show_last(rt, "join", &Join::new(MANY, MANY))?;
     let statement = Statement::Key(Concept(4), Concept(6), RolePairs::One(pair(0)));

@@ -1,4 +1,4 @@
-// A base of as many equal rows as one likes, to reach the greatest numbers that can be told.
+// A base of any number of equal rows, to reach the greatest numbers that can be told.
 ghost use Rattle.kb.specs.Telling.{tell};
 ghost use Rattle.layers_tests.specs.Many.{many_owed, many_meaning};
 ghost use Rattle.rows.specs.Rows.{row_at};
@@ -18,6 +18,8 @@ pub struct Many {
     pub rows: u16,
 }
 
+// A number of 16 bits is told as it is. This is a function since an argument is known to have 16 bits, and a field of
+// `&self` is not.
 fn told(n: u16) -> u16
     ensures { result ≡ tell n }
 {

@@ -1,7 +1,7 @@
 // Two small inventories of certificates, joined, with rules and a question on top.
 use crate::show::show_base;
 use inventory::{Columns, Inventory, Record};
-use join::Join;
+use join::{Join, JoinFault};
 use kb::axioms::{Inclusion, RolePair, RolePairs};
 use kb::lexicon::Entry;
 use kb::names::{Concept, Role};
@@ -10,7 +10,8 @@ use layers::question::Question;
 use layers::rules::Rules;
 use std::io;
 
-const COLUMNS: Columns = Columns {
+/// The roles that the columns of every inventory here stand for.
+pub const COLUMNS: Columns = Columns {
     issuer: Role(0),
     serial: Role(1),
     public_key: Role(2),
@@ -186,8 +187,8 @@ static CASES: [Case; 12] = [
     },
 ];
 
-/// What the check of a join answers: the number of its refusal, or 0.
-fn check(case: &Case) -> u16 {
+/// What the check of a join answers.
+fn check(case: &Case) -> Result<(), JoinFault> {
     let mut lexicon = FIRST;
     if case.place < 5 {
         lexicon[case.place] = case.entry;
@@ -196,16 +197,15 @@ fn check(case: &Case) -> u16 {
     let part = &whole[0..case.count.min(5)];
     let base = Inventory::new(&FIRST, 3, COLUMNS, &[], 0);
     let other = Inventory::new(part, case.roles, COLUMNS, &[], 0);
-    match Join::new(base, other).check() {
-        Ok(()) => 0,
-        Err(fault) => fault.number(),
-    }
+    Join::new(base, other).check()
 }
 
 /// Lexicons and numbers of roles that are compared with the first.
 pub fn checks(rt: &HostRuntime) -> io::Result<()> {
     for case in &CASES {
-        println!(rt; "joined with {}: {}", case.name, check(case))?;
+        // In the line that is printed 0 stands for no refusal.
+        let told = check(case).map_or_else(JoinFault::number, |()| 0);
+        println!(rt; "joined with {}: {told}", case.name)?;
     }
     Ok(())
 }

@@ -1,4 +1,6 @@
-// Prints what a base answers, a line for each row: its numbers in the order in which a case file has them.
+// Prints what a base answers, a line for each row: its numbers in the order in which a case file has them. The runtime is passed
+// to each call that prints, as everywhere in the language.
+// The numbers are read off the rows here anew, so that the test depends on no other reading of them.
 use kb::axioms::{Assertion, Key, RolePairs};
 use kb::base::Base;
 use kb::fault::RowList;
@@ -25,17 +27,16 @@ fn assertion_numbers(row: Assertion) -> [u16; 4] {
     }
 }
 
+// The count of pairs, and the numbers of four: those that are not there are 0.
 fn pairs_numbers(pairs: RolePairs) -> [u16; 9] {
-    match pairs {
-        RolePairs::One(p) => [1, p.left.0, p.right.0, 0, 0, 0, 0, 0, 0],
-        RolePairs::Two(p, q) => [2, p.left.0, p.right.0, q.left.0, q.right.0, 0, 0, 0, 0],
-        RolePairs::Three(p, q, s) => [
-            3, p.left.0, p.right.0, q.left.0, q.right.0, s.left.0, s.right.0, 0, 0,
-        ],
-        RolePairs::Four(p, q, s, t) => [
-            4, p.left.0, p.right.0, q.left.0, q.right.0, s.left.0, s.right.0, t.left.0, t.right.0,
-        ],
+    let list = pairs.list();
+    let mut numbers = [0; 9];
+    numbers[0] = list.len() as u16;
+    let (places, _) = numbers[1..].as_chunks_mut();
+    for (place, pair) in places.iter_mut().zip(list.iter()) {
+        *place = [pair.left.0, pair.right.0];
     }
+    numbers
 }
 
 fn key_numbers(row: Key) -> ([u16; 2], [u16; 9]) {

@@ -1,29 +1,11 @@
 -- What the first place alike a row is, from place to place, and in words.
-use Rattle.std.proofs.Common.{◌≡◌, ℕ, zero, suc, ◌+◌, ◌<◌, ◌≤◌, Bool, true, false, List, [], ◌∷◌, length, get_or, Some, None, Option, sym, refl, ap, subst, ⊎_elim, arith}
+use Rattle.std.proofs.Common.{◌≡◌, ℕ, zero, suc, ◌<◌, ◌≤◌, Bool, true, false, List, [], ◌∷◌, length, get_or, Some, None, Ok, Option, MatchOption, sym, refl, ap, ◌∙◌, ⊎_elim, arith}
 use Rattle.std.specs.Option.{option_map}
-use Rattle.std.proofs.lemmas.Bool.{both_ways, cases_lt, cond_both}
-use Rattle.rows.proofs.RowLaws.{row_at-found}
-use Rattle.ledger.specs.Firsts.{Finds, FirstAlike, NoneAlike, first_alike}
+use Rattle.std.proofs.lemmas.Bool.{both_ways, cases_lt, cases_order, cond_both}
+use Rattle.rows.proofs.RowLaws.{row_at-found, row_at-inside}
+use Rattle.ledger.specs.Firsts.{AlikeAt, Finds, FirstAlike, NoneAlike, first_alike}
 
 module _ {A : Type 0} (alike : A → A → Bool) where
-  -- y is the row at place n
-  pub first_alike-here : (xs : List A) (n : ℕ) (x y : A) → n < length xs → y ≡ get_or xs n y → true ≡ alike y x → Some n ≡ first_alike alike xs n x
-  first_alike-here [] n x y h e t = absurd (omega arith)
-  first_alike-here (z ∷ zs) zero x y h e t = let a : alike z x ≡ true = cc in rw a
-  first_alike-here (z ∷ zs) (suc n) x y h e t = ap (option_map suc) (first_alike-here zs n x y (omega arith) e t)
-
-  pub first_alike-more : (xs : List A) (n : ℕ) (x y : A) → n < length xs → y ≡ get_or xs n y → false ≡ alike y x → first_alike alike xs (n + 1) x ≡ first_alike alike xs n x
-  first_alike-more [] n x y h e f = absurd (omega arith)
-  first_alike-more (z ∷ zs) zero x y h e f = let a : alike z x ≡ false = cc in rw a
-  first_alike-more (z ∷ zs) (suc n) x y h e f =
-      let k : suc n + 1 ≡ suc (n + 1) = omega arith in
-      rw k (ap (option_map suc) (first_alike-more zs n x y (omega arith) e f))
-
-  pub first_alike_all : (xs : List A) (n : ℕ) (x : A) → length xs ≤ n → None ≡ first_alike alike xs n x
-  first_alike_all [] n x h = refl
-  first_alike_all (y ∷ ys) zero x h = absurd (omega arith)
-  first_alike_all (y ∷ ys) (suc n) x h = ap (option_map suc) (first_alike_all ys n x (omega arith))
-
   NoneAlike_front : (y : A) (ys : List A) (x : A) → alike y x ≡ false → NoneAlike alike (y ∷ ys) 0 1 x
   NoneAlike_front y ys x f zero h k (z, e, t) = both_ways (alike y x) f (cc)
   NoneAlike_front y ys x f (suc q) h k a = absurd (omega arith)
@@ -53,8 +35,49 @@ module _ {A : Type 0} (alike : A → A → Bool) where
       (p, refl, ⊎_elim (λ l. absurd (f.earlier q h l (x, e, same x))) (λ l. l) (cases_lt q p))
   FirstAlike_finds same xs n x None f q h e = absurd (f q h (row_at-found xs q x e) (x, e, same x))
 
-  -- what the definition answers is what the words say
-  pub first_alike-means : ((x : A) → alike x x ≡ true) → (xs : List A) (n : ℕ) (x : A) (r : Option ℕ) → r ≡ first_alike alike xs n x → record { value : r ≡ first_alike alike xs n x; means : FirstAlike alike xs n x r; finds : Finds xs n x r }
-  first_alike-means same xs n x r e =
-      let f = subst (FirstAlike alike xs n x) (sym e) (first_alike-first xs n x) in
-      record { value = e; means = f; finds = FirstAlike_finds same xs n x r f }
+  -- the test of the row at place k answers t
+  abbrev pub Tested : List A → A → Bool → ℕ → Type 0
+  Tested xs x t k = (y : A) × (y ≡ get_or xs k y) × (t ≡ alike y x)
+
+  tested-alike : (xs : List A) (x : A) (k : ℕ) → k < length xs → Tested xs x true k → AlikeAt alike xs x k
+  tested-alike xs x k h (y, e, t) = (y, row_at-inside xs k y h ∙ ap Ok (sym e), sym t)
+
+  tested-unlike : (xs : List A) (x : A) (k : ℕ) → k < length xs → Tested xs x false k → AlikeAt alike xs x k → ⊥
+  tested-unlike xs x k h (y, e, f) (z, there, t) =
+      let same : Ok z ≡ Ok y = sym there ∙ row_at-inside xs k y h ∙ ap Ok (sym e) in
+      both_ways (alike y x) (sym f) (cc)
+
+  -- what `find` answers over the places of a list, where it looks for a row alike x
+  abbrev pub Found : List A → ℕ → A → Option ℕ → Type 0
+  Found xs n x r =
+      MatchOption r
+      ((k : ℕ) → n ≤ k → k < length xs → Tested xs x false k)
+      (λ i. (n ≤ i) × (i < length xs) × Tested xs x true i × ((k : ℕ) → n ≤ k → k < i → Tested xs x false k))
+
+  found-first : (xs : List A) (n : ℕ) (x : A) (r : Option ℕ) → Found xs n x r → FirstAlike alike xs n x r
+  found-first xs n x None h = λ k from below a. tested-unlike xs x k below (h k from below) a
+  found-first xs n x (Some p) (from, below, t, earlier) =
+      record {
+        after = from;
+        below = below;
+        here = tested-alike xs x p below t;
+        earlier = λ k l m a. tested-unlike xs x k (omega arith) (earlier k l m) a;
+      }
+
+  -- there is one first place at most
+  first-same : (xs : List A) (n : ℕ) (x : A) (r s : Option ℕ) → FirstAlike alike xs n x r → FirstAlike alike xs n x s → r ≡ s
+  first-same xs n x None None f g = refl
+  first-same xs n x None (Some q) f g = absurd (f q g.after g.below g.here)
+  first-same xs n x (Some p) None f g = absurd (g p f.after f.below f.here)
+  first-same xs n x (Some p) (Some q) f g =
+      ⊎_elim (λ e. ap Some e) (⊎_elim (λ l. absurd (g.earlier p f.after l f.here)) (λ l. absurd (f.earlier q g.after l g.here))) (cases_order p q)
+
+  -- what `find` answers is what the definition answers and what the words say
+  pub first_alike-found : ((x : A) → alike x x ≡ true) → (xs : List A) (n : ℕ) (x : A) (r : Option ℕ) → Found xs n x r → record { value : r ≡ first_alike alike xs n x; means : FirstAlike alike xs n x r; finds : Finds xs n x r }
+  first_alike-found same xs n x r h =
+      let f = found-first xs n x r h in
+      record {
+        value = first-same xs n x r (first_alike alike xs n x) f (first_alike-first xs n x);
+        means = f;
+        finds = FirstAlike_finds same xs n x r f;
+      }

@@ -1,7 +1,7 @@
 // Why a ledger refuses a row.
 
 /// Every slot is used: 10.
-#[derive(Clone, Copy)]
+#[derive(Clone, Copy, Debug, PartialEq, Eq)]
 pub enum LedgerFault {
     Full,
 }

@@ -15,13 +15,15 @@ mod likeness;
 pub use fault::LedgerFault;
 pub use likeness::Alike;
 
-/// Rows in the first `len` slots; where `len` passes the number of slots, every slot is a row.
+/// Rows in the first `len` slots; where `len` passes the number of slots, every slot is a row. The host lends the memory, so
+/// that the slots are a slice with the number of rows beside it.
 #[derive(Drop)]
 pub struct Ledger<'a, T> {
     slots: &'a mut [T],
     len: usize,
 }
 
+#[tactic(auto, unfolding(crate::specs::Books::book))]
 impl<'a, T: Copy> Ledger<'a, T> {
     /// A ledger without rows, over slots of any content.
     pub fn empty(slots: &'a mut [T]) -> Ledger<'a, T>
@@ -44,7 +46,7 @@ impl<'a, T: Copy> Ledger<'a, T> {
         ensures { result.now ≡ (book self.now).rows }
     {
         let slots = &*self.slots;
-        &slots[0..self.len.min(slots.len())]
+        &slots[..self.len.min(slots.len())]
     }
 
     /// The number of rows.
@@ -105,10 +107,5 @@ pub fn first_alike<T: Copy + Alike>(rows: &[T], from: usize, row: &T) -> Option<
     ensures means { FirstAlike T.alike rows.now from row.now result }
     ensures finds { Finds rows.now from row.now result }
 {
-    for i in from..rows.len() {
-        if rows[i].is_alike(row) {
-            return Some(i);
-        }
-    }
-    None
+    (from..rows.len()).find(|&i| rows[i].is_alike(row))
 }

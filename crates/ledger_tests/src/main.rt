@@ -10,13 +10,14 @@ mod records;
 
 use calculus::row_kinds::{ConceptRow, RoleRow};
 use cases::{CASES, Case};
-use ledger::{Alike, Ledger};
+use ledger::{Alike, Ledger, LedgerFault};
 use records::Numbered;
 use std::io;
 
 /// What a ledger answered: the two last are the first alike the record sought, and the same from 0 once that is appended.
 #[derive(Drop)]
 struct Outcome {
+    // Whether an append was refused: only that is printed.
     refused: bool,
     size: usize,
     count: usize,
@@ -25,40 +26,33 @@ struct Outcome {
     appended: Option<usize>,
 }
 
-/// Appends the first `n` records, and tells whether the last append was refused.
-fn append_all<T: Copy + Numbered>(ledger: &mut Ledger<'_, T>, n: u16) -> bool {
-    let mut refused = false;
+/// Appends the first `n` records, up to the first that is refused.
+fn append_all<T: Copy + Numbered>(ledger: &mut Ledger<'_, T>, n: u16) -> Result<(), LedgerFault> {
     for i in 0..n {
-        refused = ledger.append(T::nth(i)).is_err();
+        ledger.append(T::nth(i))?;
     }
-    refused
+    Ok(())
 }
 
 /// Appends a record, and looks for one alike it from the first place on.
 fn append_and_find<T: Copy + Alike>(ledger: &mut Ledger<'_, T>, row: T) -> Option<usize>
     ensures { length (book ledger.old).rows < size (book ledger.old) → FoundBy result (length (book ledger.old).rows) }
 {
-    match ledger.append(row) {
-        Ok(()) => ledger.first_alike(0, &row),
-        Err(_) => None,
-    }
+    ledger.append(row).ok()?;
+    ledger.first_alike(0, &row)
 }
 
 fn play<T: Copy + Alike + Numbered>(slots: &mut [T], case: &Case) -> Outcome {
     let mut ledger = Ledger::empty(slots);
-    let first_refused = append_all(&mut ledger, case.first);
+    let first = append_all(&mut ledger, case.first);
     ledger.cut_back(case.kept);
-    let then_refused = append_all(&mut ledger, case.then);
-    let row = match ledger.row(case.row) {
-        Ok(row) => Some(row.number()),
-        Err(_) => None,
-    };
+    let then = append_all(&mut ledger, case.then);
     let sought = T::nth(case.sought);
     Outcome {
-        refused: first_refused || then_refused,
+        refused: first.is_err() || then.is_err(),
         size: ledger.size(),
         count: ledger.count(),
-        row,
+        row: ledger.row(case.row).ok().map(|row| row.number()),
         alike: ledger.first_alike(case.from, &sought),
         appended: append_and_find(&mut ledger, sought),
     }
@@ -72,13 +66,10 @@ fn report<T: Copy + Alike + Numbered>(
 ) -> io::Result<()> {
     let Case {
         name,
-        slots: _,
-        first: _,
-        kept: _,
-        then: _,
         row: n,
         from,
         sought,
+        ..
     } = case;
     let Outcome {
         refused,

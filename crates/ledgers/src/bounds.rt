@@ -2,6 +2,7 @@
 ghost use Rattle.calculus.specs.Table.{below};
 ghost use Rattle.calculus.specs.States.{concept_row_fits, pair_row_fits, pending_row_fits, role_row_fits, rows_fit};
 ghost use Rattle.ledgers.specs.Contents.{ledgers_of};
+ghost use Rattle.std.specs.List.{list_all};
 ghost use Rattle.std.specs.Prelude.{◌≡◌};
 
 use crate::Ledgers;
@@ -9,7 +10,6 @@ use calculus::lengths::Lengths;
 use calculus::row_kinds::{ConceptRow, PairRow, PendingRow, RoleRow};
 use kb::counts::Counts;
 use kb::names::Individual;
-use scan::{Test, every_passes};
 
 /// What there is to be named: what a base has, the individuals of a sheet, and its rows.
 #[derive(Clone, Copy)]
@@ -20,51 +20,45 @@ struct Bounds {
 }
 
 impl Bounds {
+    // Whether an individual is the sheet's.
     fn has(&self, x: Individual) -> bool
         ensures { result ≡ below self.now.individuals x }
     {
         x.0 < self.individuals
     }
-}
 
-impl Test<ConceptRow> for Bounds {
-    ghost test = { λ s. concept_row_fits s.base s.individuals };
-
-    fn passes(&self, row: &ConceptRow) -> bool {
-        self.base.has_concept(row.concept) && self.has(row.individual)
+    fn has_concept_rows(&self, rows: &[ConceptRow]) -> bool
+        ensures { result ≡ list_all (concept_row_fits self.now.base self.now.individuals) rows.now }
+    {
+        rows.iter().all(|row| self.base.has_concept(row.concept) && self.has(row.individual))
     }
-}
 
-impl Test<RoleRow> for Bounds {
-    ghost test = { λ s. role_row_fits s.base s.individuals };
-
-    fn passes(&self, row: &RoleRow) -> bool {
-        self.base.has_role(row.role) && self.has(row.from) && self.has(row.to)
+    fn has_role_rows(&self, rows: &[RoleRow]) -> bool
+        ensures { result ≡ list_all (role_row_fits self.now.base self.now.individuals) rows.now }
+    {
+        rows.iter().all(|row| self.base.has_role(row.role)
+            && self.has(row.from)
+            && self.has(row.to))
     }
-}
 
-impl Test<PairRow> for Bounds {
-    ghost test = { λ s. pair_row_fits s.base s.individuals };
-
-    fn passes(&self, row: &PairRow) -> bool {
-        match *row {
-            PairRow::Same(x, y) => self.has(x) && self.has(y),
-            PairRow::Different(x, y) => self.has(x) && self.has(y),
-        }
+    fn has_pair_rows(&self, rows: &[PairRow]) -> bool
+        ensures { result ≡ list_all (pair_row_fits self.now.base self.now.individuals) rows.now }
+    {
+        rows.iter().all(|row| match *row {
+            PairRow::Same(x, y) | PairRow::Different(x, y) => self.has(x) && self.has(y),
+        })
     }
-}
 
-impl Test<PendingRow> for Bounds {
-    ghost test = { λ s. pending_row_fits s.base s.individuals s.rows };
-
-    fn passes(&self, row: &PendingRow) -> bool {
-        self.base.has_concept(row.side.concept)
+    fn has_pending_rows(&self, rows: &[PendingRow]) -> bool
+        ensures { result ≡ list_all (pending_row_fits self.now.base self.now.individuals self.now.rows) rows.now }
+    {
+        rows.iter().all(|row| self.base.has_concept(row.side.concept)
             && row.side.individual.0 < row.individuals
             && self.base.individuals <= row.individuals
             && row.individuals <= self.individuals
             && row.concepts <= self.rows.concepts
             && row.roles <= self.rows.roles
-            && row.pairs <= self.rows.pairs
+            && row.pairs <= self.rows.pairs)
     }
 }
 
@@ -79,9 +73,9 @@ impl<'a> Ledgers<'a> {
             individuals,
             rows: self.row_counts(),
         };
-        every_passes(&bounds, self.concepts.rows())
-            && every_passes(&bounds, self.roles.rows())
-            && every_passes(&bounds, self.pairs.rows())
-            && every_passes(&bounds, self.pending.rows())
+        bounds.has_concept_rows(self.concepts.rows())
+            && bounds.has_role_rows(self.roles.rows())
+            && bounds.has_pair_rows(self.pairs.rows())
+            && bounds.has_pending_rows(self.pending.rows())
     }
 }

@@ -43,6 +43,7 @@ impl<'a> Ledgers<'a> {
     }
 
     /// How many places each ledger has.
+    // The four are of four types, so that no list of them could be gone through, here and below.
     pub fn sizes(&self) -> Lengths
         ensures { result ≡ sizes_of (ledgers_of self.now) }
     {
@@ -83,8 +84,7 @@ impl<'a> Ledgers<'a> {
         match *fact {
             Assertion::Is(_, _) => has_place(&self.concepts),
             Assertion::Joins(_, _, _) => has_place(&self.roles),
-            Assertion::Same(_, _) => has_place(&self.pairs),
-            Assertion::Different(_, _) => has_place(&self.pairs),
+            Assertion::Same(_, _) | Assertion::Different(_, _) => has_place(&self.pairs),
             Assertion::Unlisted(_) => true,
         }
     }
@@ -111,10 +111,7 @@ impl<'a> Ledgers<'a> {
     pub fn can_note(&self, split: Option<ConceptRow>) -> bool
         ensures { result ≡ noteable split (ledgers_of self.now) }
     {
-        match split {
-            None => true,
-            Some(_) => has_place(&self.pending) && has_place(&self.concepts),
-        }
+        split.is_none() || (has_place(&self.pending) && has_place(&self.concepts))
     }
 
     /// Notes the right side of a split, with the lengths of the other three ledgers and the number of individuals.
@@ -134,17 +131,11 @@ impl<'a> Ledgers<'a> {
     }
 
     /// The right side that was noted last.
+    #[tactic(auto, using(crate::proofs::LastRows::last_of_slice_get))]
     pub fn last_pending(&self) -> Option<PendingRow>
         ensures { result ≡ last_of (ledgers_of self.now).pending.rows }
     {
-        let count = self.pending.count();
-        if count == 0 {
-            return None;
-        }
-        match self.pending.row(count - 1) {
-            Ok(side) => Some(side),
-            Err(_) => None,
-        }
+        self.pending.rows().last().copied()
     }
 
     /// Cuts back to the lengths that a right side notes, and takes the last right side away.

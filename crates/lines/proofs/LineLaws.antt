@@ -1,11 +1,10 @@
 -- Reading a line is the inverse of writing one.
 use Rattle.std.proofs.Common.{◌≡◌, ℕ, ◌+◌, ◌-◌, ◌<◌, ◌≤◌, Bool, true, false, leb, List, [], ◌∷◌, ◌++◌, length, drop, Ok, Err, Result, sym, refl, ap, ◌∙◌, subst, append_assoc, arith, length-append, length-drop}
 use Rattle.std.specs.Char.{is_ascii_digit}
-use Rattle.std.specs.List.{flat_map}
+use Rattle.std.specs.List.{flat_map, list_all}
 use Rattle.std.proofs.lemmas.List.{drop_at, drop-drop}
 use Rattle.std.proofs.lemmas.Bool.{and_from, and_parts, cond-false, cond-true, le-leb, leb-true}
 use Rattle.calculus.specs.declared.step.Step.{Step}
-use Rattle.calculus.specs.States.{every}
 use Rattle.calculus.specs.Table.{and_then}
 use Rattle.words.specs.declared.fault.ReadFault.{ReadFault}
 use Rattle.words.specs.declared.fault.ReadFault.TheVariants.{Unreadable}
@@ -24,7 +23,7 @@ line_numbered bs c n e q = rw (← e, ← q)
 -- what a step is written as reads as that step
 pub spelled-line : (s : Step) (rest : List ℕ) → writable s ≡ true → read_line (step_text s ++ rest) ≡ Ok (record { step = unplaced s; rest = rest })
 spelled-line s rest w =
-    let parts = and_parts (leb (length (numbers_of s)) 7) (every small (numbers_of s)) w in
+    let parts = and_parts (leb (length (numbers_of s)) 7) (list_all small (numbers_of s)) w in
     let few = leb-true (length (numbers_of s)) 7 parts.0 in
     let after : (flat_map number_text (numbers_of s) ++ 10 ∷ []) ++ rest ≡ flat_map number_text (numbers_of s) ++ 10 ∷ rest =
     append_assoc (flat_map number_text (numbers_of s)) (10 ∷ []) rest in
@@ -81,7 +80,7 @@ written-by bs c n r l s k m =
     let few : length ns ≤ 7 = omega (arith, m.few, ap length m.numbers) in
     let newline : n.rest ≡ 10 ∷ r.rest = begins-front 10 n.rest k.newline ∙ ap (λ x. 10 ∷ x) k.rest in
     record {
-      fit = and_from _ _ (le-leb (length ns) 7 few) (subst (λ (x : List ℕ). every small x ≡ true) same s.smalls);
+      fit = and_from _ _ (le-leb (length ns) 7 few) (subst (λ (x : List ℕ). list_all small x ≡ true) same s.smalls);
       text =
           letter-first bs c l
           ∙ ap (λ x. c ∷ x) (s.text ∙ ap (λ x. flat_map number_text x ++ n.rest) same ∙ ap (λ x. flat_map number_text ns ++ x) newline ∙ sym (append_assoc (flat_map number_text ns) (10 ∷ []) r.rest))
@@ -154,10 +153,7 @@ module _ (text : List ℕ) (from : ℕ) where
   told : (r : Result Placed ReadFault) → r ≡ line_at text from → Told r
   told r e = record { value = e; means = subst (LineRead text from) (sym e) line_read }
 
-  -- no letter, or no numbers, or none that a newline ends, or no step
-  pub no_letter : (r : Result Placed ReadFault) (f : ReadFault) → r ≡ Err f → Err f ≡ front_letter (drop from text) → Told r
-  no_letter r f p e = let is : read_line (drop from text) ≡ Err f = rw (← e) in told r (p ∙ ap (placed (length text)) (sym is))
-
+  -- no numbers, or none that a newline ends, or no step
   module _ (c : ℕ) (letter : Ok c ≡ front_letter (drop from text)) where
     next : drop 1 (drop from text) ≡ drop (from + 1) text
     next = drop-drop 1 from text

@@ -1,9 +1,8 @@
 -- The numbers of a line, one at a time and all together.
 use Rattle.std.proofs.Common.{◌≡◌, ℕ, zero, suc, ◌+◌, ◌-◌, ◌<◌, ◌≤◌, Bool, true, false, List, [], ◌∷◌, ◌++◌, length, drop, Ok, Err, decimal, Result, sym, refl, ap, ◌∙◌, append_assoc, append-nil, arith}
-use Rattle.std.specs.List.{flat_map}
+use Rattle.std.specs.List.{flat_map, list_all}
 use Rattle.std.proofs.lemmas.List.{drop_at, drop-drop}
 use Rattle.std.proofs.lemmas.Bool.{and_from, and_parts, both_ways, eqb-true, le-leb, leb-true}
-use Rattle.calculus.specs.States.{every}
 use Rattle.words.specs.declared.fault.ReadFault.{ReadFault}
 use Rattle.words.specs.declared.read.FrontNumber.{FrontNumber}
 use Rattle.words.specs.Fronts.{front_number}
@@ -60,11 +59,11 @@ spaced_digits [] rest z = z
 spaced_digits (m ∷ ms) rest z = refl
 
 -- what numbers are written as reads as those numbers
-pub spelled-numbers : (k : ℕ) (ns ms rest : List ℕ) → length ms ≤ k → every small ms ≡ true → begins 32 rest ≡ false → digit_count rest ≡ 0 → read_numbers k ns (flat_map number_text ms ++ rest) ≡ Ok (record { numbers = ns ++ ms; rest = rest })
+pub spelled-numbers : (k : ℕ) (ns ms rest : List ℕ) → length ms ≤ k → list_all small ms ≡ true → begins 32 rest ≡ false → digit_count rest ≡ 0 → read_numbers k ns (flat_map number_text ms ++ rest) ≡ Ok (record { numbers = ns ++ ms; rest = rest })
 spelled-numbers k ns [] rest h s b z = sym (numbers_stop ns rest k b) ∙ ap (λ l. Ok (record { numbers = l; rest = rest })) (sym (append-nil ns))
 spelled-numbers zero ns (m ∷ ms) rest h s b z = absurd (omega arith)
 spelled-numbers (suc k) ns (m ∷ ms) rest h s b z =
-    let parts = and_parts (small m) (every small ms) s in
+    let parts = and_parts (small m) (list_all small ms) s in
     let tail = flat_map number_text ms ++ rest in
     let whole : (decimal m ++ flat_map number_text ms) ++ rest ≡ decimal m ++ tail = append_assoc (decimal m) (flat_map number_text ms) rest in
     let number = (number_read ((decimal m ++ flat_map number_text ms) ++ rest)).found m tail (leb-true m 65535 parts.0) (spaced_digits ms rest z) whole in
@@ -80,7 +79,7 @@ pub record Spelled (k : ℕ) (ns bs : List ℕ) (r : Numbered) : Type 0 where
   pub more : List ℕ
   pub numbers : r.numbers ≡ ns ++ more
   pub few : length more ≤ k
-  pub smalls : every small more ≡ true
+  pub smalls : list_all small more ≡ true
   pub text : bs ≡ flat_map number_text more ++ r.rest
 
 -- none

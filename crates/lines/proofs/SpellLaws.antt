@@ -1,39 +1,30 @@
 -- A line spelled number by number, and how long it can become.
-use Rattle.std.proofs.Common.{◌≡◌, ℕ, zero, suc, ◌+◌, ◌*◌, ◌<◌, ◌≤◌, true, List, [], ◌∷◌, ◌++◌, length, get_or, take, decimal, sym, refl, ap, ◌∙◌, append_assoc, arith, length-append, length-take, w16, Fits}
-use Rattle.std.specs.List.{flat_map}
+use Rattle.std.proofs.Common.{◌≡◌, ℕ, zero, suc, ◌+◌, ◌*◌, ◌≤◌, true, List, [], ◌∷◌, length, get_or, take, decimal, refl, arith, length-append, length-take, w16, Fits}
+use Rattle.std.specs.List.{flat_map, list_all}
 use Rattle.std.proofs.lemmas.Fmt.{length-decimal-le}
-use Rattle.std.proofs.lemmas.List.{flat_map_more, take_more}
 use Rattle.std.proofs.lemmas.Bool.{and_from, and_parts, le-leb, leb-true}
-use Rattle.calculus.specs.States.{every}
 use Rattle.lines.specs.Spelling.{number_text, small}
 
 -- numbers of sixteen bits
-pub typed_small : (ns : List ℕ) → ((i : ℕ) → Fits w16 (get_or ns i 0)) → every small ns ≡ true
+pub typed_small : (ns : List ℕ) → ((i : ℕ) → Fits w16 (get_or ns i 0)) → list_all small ns ≡ true
 typed_small [] t = refl
 typed_small (n ∷ ns) t = and_from _ _ (le-leb n 65535 (omega (arith, (t 0).fits))) (typed_small ns (λ i. t (suc i)))
 
-small-take : (i : ℕ) (ns : List ℕ) → every small ns ≡ true → every small (take i ns) ≡ true
+small-take : (i : ℕ) (ns : List ℕ) → list_all small ns ≡ true → list_all small (take i ns) ≡ true
 small-take zero ns s = refl
 small-take (suc i) [] s = refl
-small-take (suc i) (n ∷ ns) s = let p = and_parts (small n) (every small ns) s in and_from _ _ p.0 (small-take i ns p.1)
+small-take (suc i) (n ∷ ns) s = let p = and_parts (small n) (list_all small ns) s in and_from _ _ p.0 (small-take i ns p.1)
 
 -- a number takes five digits at most
 pub decimal_size : (n : ℕ) → n ≤ 65535 → length (decimal n) ≤ 5
 decimal_size n h = length-decimal-le 5 n (omega arith) (omega arith) (omega arith)
 
-numbers-size : (ns : List ℕ) → every small ns ≡ true → length (flat_map number_text ns) ≤ 6 * length ns
+numbers-size : (ns : List ℕ) → list_all small ns ≡ true → length (flat_map number_text ns) ≤ 6 * length ns
 numbers-size [] s = omega arith
 numbers-size (n ∷ ns) s =
-    let p = and_parts (small n) (every small ns) s in
+    let p = and_parts (small n) (list_all small ns) s in
     omega (arith, decimal_size n (leb-true n 65535 p.0), numbers-size ns p.1, length-append (decimal n) (flat_map number_text ns))
 
 -- the letter and the first i numbers
-pub spelled-size : (letter : ℕ) (ns : List ℕ) (i : ℕ) → every small ns ≡ true → length (letter ∷ flat_map number_text (take i ns)) ≤ 1 + 6 * i
+pub spelled-size : (letter : ℕ) (ns : List ℕ) (i : ℕ) → list_all small ns ≡ true → length (letter ∷ flat_map number_text (take i ns)) ≤ 1 + 6 * i
 spelled-size letter ns i s = omega (arith, numbers-size (take i ns) (small-take i ns s), length-take i ns)
-
--- one number more
-pub spelled-more : (text spaced after : List ℕ) (letter : ℕ) (ns : List ℕ) (i : ℕ) → i < length ns → text ≡ letter ∷ flat_map number_text (take i ns) → spaced ≡ text ++ 32 ∷ [] → after ≡ spaced ++ decimal (get_or ns i 0) → after ≡ letter ∷ flat_map number_text (take (i + 1) ns)
-spelled-more text spaced after letter ns i h e f g =
-    let n = get_or ns i 0 in
-    g ∙ ap (λ x. x ++ decimal n) f ∙ append_assoc text (32 ∷ []) (decimal n) ∙ ap (λ x. x ++ number_text n) e
-    ∙ flat_map_more number_text (letter ∷ []) (take i ns) n ∙ ap (λ x. letter ∷ flat_map number_text x) (sym (take_more ns i 0 h))

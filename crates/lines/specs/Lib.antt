@@ -1,5 +1,4 @@
 -- What the contracts cite.
-pub mod Few
 pub mod Letters
 pub mod Reading
 pub mod Spelling

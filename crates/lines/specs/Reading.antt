@@ -7,7 +7,6 @@ use Rattle.words.specs.declared.fault.ReadFault.TheVariants.{Unreadable}
 use Rattle.words.specs.Fronts.{front_letter, front_number}
 use Rattle.lines.specs.declared.read.ReadNumbers.{ReadNumbers}
 use Rattle.lines.specs.declared.read.ReadLine.{ReadLine}
-use Rattle.lines.specs.Few.{items}
 use Rattle.lines.specs.Letters.{step_of}
 use Rattle.lines.specs.Steps.{line_step}
 
@@ -57,7 +56,7 @@ line_at text from = placed (length text) (read_line (drop from text))
 
 -- What was read, as it is told.
 abbrev pub seen_numbers : List ℕ → ReadNumbers → Numbered
-seen_numbers text n = record { numbers = items n.numbers; rest = drop n.end text }
+seen_numbers text n = record { numbers = n.numbers.items; rest = drop n.end text }
 
 abbrev pub seen_line : ReadLine → Placed
 seen_line l = record { step = line_step l.line; end = l.end }

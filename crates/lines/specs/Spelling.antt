@@ -3,9 +3,8 @@
 -- A line is a letter, then for each number a space and its decimal digits, then a newline. The letter says which step it is,
 -- and so how many numbers there are.
 use Rattle.std.specs.Prelude.{◌≡◌, ℕ, ◌+◌, Bool, true, ◌&&◌, List, [], ◌∷◌, ◌++◌, length, drop, Ok, Err, decimal, Result, ◌≢◌, nat_le}
-use Rattle.std.specs.List.{flat_map}
+use Rattle.std.specs.List.{flat_map, list_all}
 use Rattle.calculus.specs.declared.step.Step.{Step}
-use Rattle.calculus.specs.States.{every}
 use Rattle.words.specs.declared.fault.ReadFault.{ReadFault}
 use Rattle.words.specs.declared.fault.ReadFault.TheVariants.{Unreadable}
 use Rattle.lines.specs.Letters.{letter_of, numbers_of}
@@ -26,7 +25,7 @@ small n = nat_le n 65535
 
 -- A step that can be written: it has at most seven numbers, so at most four shared values, and none above 65,535.
 abbrev pub writable : Step → Bool
-writable s = nat_le (length (numbers_of s)) 7 && every small (numbers_of s)
+writable s = nat_le (length (numbers_of s)) 7 && list_all small (numbers_of s)
 
 -- Reading is the inverse of writing, in words. Where the text of a step stands at a place, that step is read there, and the
 -- place behind its newline is told. Where a step is read, it can be written, and its text stands there and ends at the place

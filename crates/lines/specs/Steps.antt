@@ -6,7 +6,6 @@ use Rattle.calculus.specs.declared.step.Step.{Step}
 use Rattle.calculus.specs.declared.step.Step.TheVariants.{Take, Both, All, Some as SomeStep, Include, Key, Either, Cut, Clash, Apart}
 use Rattle.lines.specs.declared.line.Line.{Line}
 use Rattle.lines.specs.declared.line.Line.TheVariants as line
-use Rattle.lines.specs.Few.{items}
 
 -- A lent list of individuals, lying nowhere in particular.
 abbrev pub lent : List Individual → Bor (List Individual)
@@ -32,7 +31,7 @@ line_step (line.Both c x) = Both c x
 line_step (line.All c x y) = All c x y
 line_step (line.Some c x) = SomeStep c x
 line_step (line.Include n x) = Include n x
-line_step (line.Key n x y zs) = Key n x y (lent (items zs))
+line_step (line.Key n x y zs) = Key n x y (lent zs.items)
 line_step (line.Either c x) = Either c x
 line_step (line.Cut c x) = Cut c x
 line_step (line.Clash c x) = Clash c x

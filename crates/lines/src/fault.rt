@@ -1,7 +1,7 @@
 // Why a step is not written.
 
 /// Why a step is not written.
-#[derive(Clone, Copy)]
+#[derive(Clone, Copy, Debug, PartialEq, Eq)]
 pub enum LineFault {
     /// A number above 65,535, or more than four shared values.
     Unwritable,

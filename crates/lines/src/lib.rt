@@ -3,7 +3,6 @@
 #![tactic(auto)]
 
 pub mod fault;
-pub mod few;
 mod letters;
 pub mod line;
 mod numbers;

@@ -2,11 +2,12 @@
 ghost use Rattle.lines.specs.Steps.{line_step, unplaced};
 ghost use Rattle.std.specs.Prelude.{◌≡◌};
 
-use crate::few::Few;
+use arrayvec::ArrayVec;
 use calculus::step::Step;
 use kb::names::{Concept, Individual};
 
 /// A step that was read from a text. It owns what it names.
+// A `Step` borrows its shared values, and what is read must own them: one type for both would put a parameter on every step.
 #[derive(Drop)]
 pub enum Line {
     Take(u16),
@@ -14,7 +15,7 @@ pub enum Line {
     All(Concept, Individual, Individual),
     Some(Concept, Individual),
     Include(u16, Individual),
-    Key(u16, Individual, Individual, Few<Individual, 4>),
+    Key(u16, Individual, Individual, ArrayVec<Individual, 4>),
     Either(Concept, Individual),
     Cut(Concept, Individual),
     Clash(Concept, Individual),
@@ -32,7 +33,7 @@ impl Line {
             Line::All(c, x, y) => Step::All(*c, *x, *y),
             Line::Some(c, x) => Step::Some(*c, *x),
             Line::Include(n, x) => Step::Include(usize::from(*n), *x),
-            Line::Key(n, x, y, values) => Step::Key(usize::from(*n), *x, *y, values.all()),
+            Line::Key(n, x, y, values) => Step::Key(usize::from(*n), *x, *y, values.as_slice()),
             Line::Either(c, x) => Step::Either(*c, *x),
             Line::Cut(c, x) => Step::Cut(*c, *x),
             Line::Clash(c, x) => Step::Clash(*c, *x),

@@ -4,9 +4,9 @@ ghost use Rattle.lines.specs.Reading.{begins, line_at, read_numbers, seen_line, 
 ghost use Rattle.lines.specs.Spelling.{LineRead};
 ghost use Rattle.std.specs.Result.{result_map_both};
 
-use crate::few::Few;
 use crate::letters::line_of;
 use crate::line::Line;
+use arrayvec::ArrayVec;
 use words::fault::ReadFault;
 use words::read::{letter_at, number_at};
 
@@ -15,13 +15,13 @@ fn is_at(text: &[u8], at: usize, byte: u8) -> bool
     ensures value { result ≡ begins byte (drop at text.now) }
     ensures within { result ≡ true → at < length text.now }
 {
-    at < text.len() && text[at] == byte
+    text.get(at) == Some(&byte)
 }
 
 // The numbers that were read, and the place behind them.
 #[derive(Drop)]
 struct ReadNumbers {
-    numbers: Few<u16, 7>,
+    numbers: ArrayVec<u16, 7>,
     end: usize,
 }
 
@@ -29,17 +29,15 @@ struct ReadNumbers {
 fn read_numbers(text: &[u8], from: usize) -> Result<ReadNumbers, ReadFault>
     ensures { result_map_both (seen_numbers text.now) (λ f. f) result ≡ read_numbers 7 [] (drop from text.now) }
 {
-    let mut numbers = Few::none(0);
-    let mut at = from;
-    for _ in 0..7usize {
-        if !is_at(text, at, b' ') {
-            break;
-        }
-        let number = number_at(text, at + 1)?;
+    let mut numbers = ArrayVec::new();
+    let mut end = from;
+    // The next place is what reading answers, so that a cursor is kept and no iterator.
+    while !numbers.is_full() && is_at(text, end, b' ') {
+        let number = number_at(text, end + 1)?;
         numbers.push(number.value);
-        at += 1 + number.size;
+        end += 1 + number.size;
     }
-    Ok(ReadNumbers { numbers, end: at })
+    Ok(ReadNumbers { numbers, end })
 }
 
 /// A line that was read, and the place behind its newline.
@@ -60,7 +58,7 @@ pub fn read_line(text: &[u8], from: usize) -> Result<ReadLine, ReadFault>
     if !is_at(text, read.end, b'\n') {
         return Err(ReadFault::Unreadable);
     }
-    let line = line_of(letter, read.numbers.all())?;
+    let line = line_of(letter, read.numbers.as_slice())?;
     Ok(ReadLine {
         line,
         end: read.end + 1,

@@ -15,12 +15,11 @@ pub fn write_line(step: &Step<'_>, buffer: &mut [u8]) -> Result<usize, LineFault
     ensures means { LineWritten step.now buffer.old result buffer.new }
 {
     let numbers = numbers_of(step)?;
-    let spelled = spell(letter_of(step), numbers.all());
-    let line = spelled.all();
+    let line = spell(letter_of(step), numbers.as_slice());
     let size = line.len();
     if size > buffer.len() {
         return Err(LineFault::Full);
     }
-    buffer[0..size].copy_from_slice(line);
+    buffer[..size].copy_from_slice(line.as_str().as_bytes());
     Ok(size)
 }

@@ -1,43 +1,28 @@
-// The head of each individual, computed from the same rows into lent numbers.
+// The head of each individual, computed from the same rows into numbers that the host lends.
 ghost use Rattle.calculus.specs.Branches.{head_of, merged};
-ghost use Rattle.calculus.specs.States.{every};
 ghost use Rattle.lookup.specs.Heads.{head_in, joined, joined_by, names_below};
 ghost use Rattle.std.specs.Prelude.{◌≡◌, ℕ, ◌≤◌, true, length};
+ghost use Rattle.std.specs.List.{list_all};
 
 use calculus::row_kinds::PairRow;
 use kb::names::Individual;
-use scan::Test;
 
 // The head of an individual; a number beyond the heads is its own.
 pub(crate) fn head_of(heads: &[u16], x: Individual) -> u16
     ensures { result ≡ head_in heads.now x.0 }
 {
-    let i = usize::from(x.0);
-    if i < heads.len() { heads[i] } else { x.0 }
-}
-
-// Whether a same or different row names only individuals below a number.
-pub(crate) struct NamesBelow(usize);
-
-impl Test<PairRow> for NamesBelow {
-    ghost test = { λ t. names_below t.0 };
-
-    fn passes(&self, row: &PairRow) -> bool {
-        match *row {
-            PairRow::Same(x, y) | PairRow::Different(x, y) => usize::from(x.0) < self.0
-                && usize::from(y.0) < self.0,
-        }
-    }
+    heads.get(usize::from(x.0)).copied().unwrap_or(x.0)
 }
 
 // Whether same and different rows name only individuals below a number.
 pub(crate) fn all_named(count: usize, pairs: &[PairRow]) -> bool
-    ensures { result ≡ every (names_below count) pairs.now }
+    ensures { result ≡ list_all (names_below count) pairs.now }
 {
-    let test = NamesBelow(count);
-    let answer = scan::every_passes(&test, pairs);
-    let NamesBelow(_) = test;
-    answer
+    pairs.iter().all(|row| match *row {
+        PairRow::Same(x, y) | PairRow::Different(x, y) => {
+            usize::from(x.0) < count && usize::from(y.0) < count
+        }
+    })
 }
 
 // Each individual is its own head.
@@ -45,8 +30,8 @@ fn reset(heads: &mut [u16])
     requires { length heads.old ≤ 65535 }
     ensures { (x : ℕ) → head_in heads.new x ≡ x }
 {
-    for i in 0..heads.len() {
-        heads[i] = i as u16;
+    for (i, head) in heads.iter_mut().enumerate() {
+        *head = i as u16;
     }
 }
 
@@ -63,8 +48,8 @@ fn join(heads: &mut [u16], x: Individual, y: Individual)
 {
     let u = head_of(heads, x);
     let v = head_of(heads, y);
-    for i in 0..heads.len() {
-        heads[i] = merge(u, v, heads[i]);
+    for head in heads.iter_mut() {
+        *head = merge(u, v, *head);
     }
 }
 
@@ -79,13 +64,14 @@ fn join_by(heads: &mut [u16], row: &PairRow)
 }
 
 // Writes the head of each individual; rows name no others.
+#[tactic(auto, unfolding(calculus::specs::Branches::head_of))]
 pub(crate) fn find_heads(heads: &mut [u16], pairs: &[PairRow])
     requires few { length heads.old ≤ 65535 }
-    requires named { every (names_below (length heads.old)) pairs.now ≡ true }
+    requires named { list_all (names_below (length heads.old)) pairs.now ≡ true }
     ensures { (x : ℕ) → head_of pairs.now x ≡ head_in heads.new x }
 {
     reset(heads);
-    for i in 0..pairs.len() {
-        join_by(heads, &pairs[i]);
+    for row in pairs {
+        join_by(heads, row);
     }
 }

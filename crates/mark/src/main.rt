@@ -33,6 +33,7 @@ fn inspect_case(rt: &HostRuntime) -> anyhow::Result<()> {
     }
 }
 
+// One command and no option: a crate for command lines would be no shorter, and would print a help of its own.
 fn run(rt: &HostRuntime) -> anyhow::Result<()> {
     let mut words = env::args(rt)?.skip(1);
     let first = words.next();

@@ -1,25 +1,17 @@
--- A loop over the numbers below a bound that ends where a test passes.
-use Rattle.std.proofs.Common.{◌≡◌, ℕ, zero, suc, ◌+◌, ◌<◌, ◌≤◌, Bool, true, false, sym, ap, ◌∙◌, ⊎_elim, add-one, arith}
-use Rattle.std.proofs.lemmas.Bool.{cases_eq, or_left, or_right, or_from}
+-- Some number below a bound passes a test exactly if some number of the list 0, 1, .. up to there does.
+use Rattle.std.proofs.Common.{◌≡◌, ℕ, zero, suc, ◌+◌, Bool, false, [], ◌∷◌, ◌++◌, refl, ap, ◌∙◌, arith}
+use mathlib.Core.Bool.{or_comm}
+use Rattle.std.proofs.lemmas.List.Folds.{list_any-append}
+use Rattle.std.specs.List.{list_any, range_with_len}
 use Rattle.calculus.specs.Review.{some_under}
 
-some_under-here : (test : ℕ → Bool) (n k : ℕ) → k < n → test k ≡ true → some_under test n ≡ true
-some_under-here test zero k lt here = absurd (omega arith)
-some_under-here test (suc n) k lt here =
-    ⊎_elim
-    (λ e. or_right (some_under test n) (test n) (ap test (sym e) ∙ here))
-    (λ ne. or_left (some_under test n) (test n) (some_under-here test n k (omega arith) here))
-    (cases_eq k n)
+-- one more number, b, which is a + n
+range_more : (a n b : ℕ) → a + n ≡ b → range_with_len a (suc n) ≡ range_with_len a n ++ b ∷ []
+range_more a zero b e = ap (λ k. k ∷ []) (omega arith)
+range_more a (suc n) b e = ap (λ ks. a ∷ ks) (range_more (a + 1) n b (omega arith))
 
--- the test passes at no number so far
-pub record NonePass (test : ℕ → Bool) (k : ℕ) : Type 0 where
-  pub none : some_under test k ≡ false
-
-pub passes-found : {test : ℕ → Bool} {n k : ℕ} → NonePass test k → k < n → true ≡ test k → true ≡ some_under test n
-passes-found {test} {n} {k} h lt here = sym (some_under-here test n k lt (sym here))
-
-pub passes-more : {test : ℕ → Bool} {k : ℕ} → NonePass test k → false ≡ test k → NonePass test (k + 1)
-passes-more {test} {k} h here = record { none = rw add-one (or_from (some_under test k) (test k) h.none (sym here)) }
-
-pub passes_all : {test : ℕ → Bool} {n k : ℕ} → NonePass test k → n ≤ k → k ≤ n → false ≡ some_under test n
-passes_all {test} {n} {k} h le ge = let e : n ≡ k = omega arith in rw e (sym h.none)
+pub any-range : (test : ℕ → Bool) (n : ℕ) → list_any test (range_with_len 0 n) ≡ some_under test n
+any-range test zero = refl
+any-range test (suc n) =
+    let e : range_with_len 0 (suc n) ≡ range_with_len 0 n ++ n ∷ [] = range_more 0 n n (omega arith) in
+    ap (list_any test) e ∙ list_any-append test (range_with_len 0 n) (n ∷ []) ∙ rw (any-range test n, or_comm (test n) false)

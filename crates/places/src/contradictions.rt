@@ -12,33 +12,21 @@ use lookup::view::View;
 
 /// A clash, if c and d are both held of x.
 pub fn clash_at<B: Base>(
-    view: &View<'_, '_>,
-    base: &B,
+    view: &View<'_, '_, B>,
     c: Concept,
     d: Concept,
     x: Individual,
 ) -> Option<Failure>
-    ensures { result ≡ clash_at (B.meaning base.now) (branch_in view.now) c d x.0 }
+    ensures { result ≡ clash_at (B.meaning view.now.base.now) (branch_in view.now) c d x.0 }
 {
-    if is_held(view, base, c, x) && is_held(view, base, d, x) {
-        Some(Failure::Clash(c, x))
-    } else {
-        None
-    }
+    let fails = is_held(view, c, x) && is_held(view, d, x);
+    fails.then_some(Failure::Clash(c, x))
 }
 
 /// A failure, if x and y are different and equal.
-pub fn apart_at<B: Base>(
-    view: &View<'_, '_>,
-    base: &B,
-    x: Individual,
-    y: Individual,
-) -> Option<Failure>
-    ensures { result ≡ apart_at (B.meaning base.now) (branch_in view.now) x.0 y.0 }
+pub fn apart_at<B: Base>(view: &View<'_, '_, B>, x: Individual, y: Individual) -> Option<Failure>
+    ensures { result ≡ apart_at (B.meaning view.now.base.now) (branch_in view.now) x.0 y.0 }
 {
-    if view.equal(x, y) && view.held(base, &Assertion::Different(x, y)) {
-        Some(Failure::Apart(x, y))
-    } else {
-        None
-    }
+    let fails = view.equal(x, y) && view.held(&Assertion::Different(x, y));
+    fails.then_some(Failure::Apart(x, y))
 }

@@ -11,20 +11,15 @@ use kb::names::{Concept, Individual};
 use lookup::view::View;
 
 // Whether c is held of x.
-pub(crate) fn is_held<B: Base>(view: &View<'_, '_>, base: &B, c: Concept, x: Individual) -> bool
-    ensures { result ≡ held (B.meaning base.now) (branch_in view.now) (Is c x) }
+pub(crate) fn is_held<B: Base>(view: &View<'_, '_, B>, c: Concept, x: Individual) -> bool
+    ensures { result ≡ held (B.meaning view.now.base.now) (branch_in view.now) (Is c x) }
 {
-    view.held(base, &Assertion::Is(c, x))
+    view.held(&Assertion::Is(c, x))
 }
 
 // Whether ~c is held of x.
-pub(crate) fn complement_held<B: Base>(
-    view: &View<'_, '_>,
-    base: &B,
-    c: Concept,
-    x: Individual,
-) -> bool
-    ensures { result ≡ held (B.meaning base.now) (branch_in view.now) (Is (complement c) x) }
+pub(crate) fn complement_held<B: Base>(view: &View<'_, '_, B>, c: Concept, x: Individual) -> bool
+    ensures { result ≡ held (B.meaning view.now.base.now) (branch_in view.now) (Is (complement c) x) }
 {
-    is_held(view, base, c.complement(), x)
+    is_held(view, c.complement(), x)
 }

@@ -1,5 +1,5 @@
 -- What is found at the first failure is what review finds, and on a run it holds.
-use Rattle.std.proofs.Common.{◌≡◌, ℕ, ◌<◌, ◌≤◌, true, false, leb, List, Ok, Err, Option, Result, ap, ◌∙◌}
+use Rattle.std.proofs.Common.{◌≡◌, ℕ, ◌<◌, ◌≤◌, true, false, leb, Ok, Err, Option, Result, sym, ap, ◌∙◌}
 use Rattle.std.proofs.lemmas.Bool.{le-leb, lt-leb}
 use Rattle.std.specs.Option.{option_map}
 use Rattle.kb.specs.Meanings.{Meaning}
@@ -7,35 +7,23 @@ use Rattle.calculus.specs.declared.review.Finding.{Finding}
 use Rattle.calculus.specs.declared.review.Finding.TheVariants.{Closed}
 use Rattle.calculus.specs.declared.review.ReviewFault.{ReviewFault}
 use Rattle.calculus.specs.declared.review.ReviewFault.TheVariants.{Changed, Full}
-use Rattle.calculus.specs.declared.row_kinds.ConceptRow.{ConceptRow}
-use Rattle.calculus.specs.declared.row_kinds.PairRow.{PairRow}
-use Rattle.calculus.specs.declared.row_kinds.RoleRow.{RoleRow}
 use Rattle.calculus.specs.Branches.{Branch}
 use Rattle.calculus.specs.Review.{found, lowest_failing, review}
-use Rattle.calculus.specs.States.{Ledgers, State, branch, branch_of, every, fits}
+use Rattle.calculus.specs.States.{State, branch, branch_of, fits}
 use Rattle.failures.specs.declared.failure.Failure.{Failure}
 use Rattle.failures.specs.Failures.{condition_of, first_failure}
 use Rattle.failures.proofs.FailureLaws.{first_of_lowest}
-use Rattle.lookup.specs.Heads.{names_below}
-use Rattle.lookup.specs.Views.{branch_over}
-use Rattle.sheet.proofs.FitLaws.{branchOver-named}
+use Rattle.sheet.specs.Writing.{rows_shown}
+use Rattle.sheet.proofs.FitLaws.{fit-shown}
 use Rattle.theorem.proofs.AnswerLaws.{answer_holds}
 use Rattle.review.specs.Verdicts.{Reviewed}
 
--- what a view of rows that name only its individuals shows is their branch
-pub view_shows :
-    (l : Ledgers) (n : ℕ) (shown : Branch) (concepts : List ConceptRow) (roles : List RoleRow) (pairs : List PairRow) → n ≤ 65535
-    → every (names_below n) l.pairs.rows ≡ true → concepts ≡ l.concepts.rows → roles ≡ l.roles.rows → pairs ≡ l.pairs.rows
-    → shown ≡ branch_over n concepts roles pairs → shown ≡ branch_of l n
-view_shows l n shown concepts roles pairs few named of_concepts of_roles of_pairs e =
-    e ∙ cc (of_concepts, of_roles, of_pairs) ∙ branchOver-named n l.concepts.rows l.roles.rows l.pairs.rows few named
-
 -- the first failure on the branch that is shown, or none, tells what review finds
 pub found_first :
-    (m : Meaning) (b shown : Branch) (first : Option Failure) → shown ≡ b → first ≡ first_failure m shown
+    (m shows : Meaning) (b shown : Branch) (first : Option Failure) → shows ≡ m → shown ≡ b → first ≡ first_failure shows shown
     → found (option_map condition_of first) ≡ found (lowest_failing m b)
-found_first m b shown first same e =
-    ap (λ (o : Option Failure). found (option_map condition_of o)) (e ∙ ap (first_failure m) same) ∙ ap found (first_of_lowest m b)
+found_first m shows b shown first over same e =
+    ap (λ (o : Option Failure). found (option_map condition_of o)) (e ∙ ap (λ (k : Meaning). first_failure k shown) over ∙ ap (first_failure m) same) ∙ ap found (first_of_lowest m b)
 
 module _ (m : Meaning) (scratch : ℕ) (s : State) where
   -- an answer that is the calculus' holds on a run
@@ -62,7 +50,9 @@ module _ (m : Meaning) (scratch : ℕ) (s : State) where
 
   -- a sheet of its own base and ledgers that is not closed is found by its conditions
   pub reviewed-found :
-      (r : Result Finding ReviewFault) → true ≡ fits m s → 1024 ≤ scratch → false ≡ s.numbers.closed
-      → r ≡ found (lowest_failing m (branch s)) → Reviewed m scratch s r s
-  reviewed-found r own l unclosed e =
-      let long : leb 1024 scratch ≡ true = le-leb 1024 scratch l in reviewed_as r (rw (← own, long, ← unclosed) e)
+      (r : Result Finding ReviewFault) (n : ℕ) → true ≡ fits m s → 1024 ≤ scratch → false ≡ s.numbers.closed → n ≡ s.numbers.individuals
+      → s.numbers.individuals ≤ 1024 → r ≡ found (lowest_failing m (rows_shown n s.ledgers)) → Reviewed m scratch s r s
+  reviewed-found r n own l unclosed is few e =
+      let long : leb 1024 scratch ≡ true = le-leb 1024 scratch l in
+      let shown : rows_shown n s.ledgers ≡ branch s = fit-shown m s (sym own) n is few ∙ ap (branch_of s.ledgers) is in
+      reviewed_as r (rw (← own, long, ← unclosed) (e ∙ ap (λ b. found (lowest_failing m b)) shown))

@@ -2,13 +2,12 @@
 // belongs here.
 #![tactic(auto)]
 
-ghost use Rattle.std.specs.Prelude.{◌≡◌, ◌≤◌, true, length};
+ghost use Rattle.std.specs.Prelude.{◌≡◌, length};
 ghost use Rattle.calculus.specs.Review.{found, lowest_failing};
-ghost use Rattle.calculus.specs.States.{branch_of, every};
 ghost use Rattle.ledgers.specs.Contents.{ledgers_of};
-ghost use Rattle.lookup.specs.Heads.{names_below};
 ghost use Rattle.review.specs.Verdicts.{Reviewed};
 ghost use Rattle.sheet.specs.States.{state_of};
+ghost use Rattle.sheet.specs.Writing.{rows_shown};
 
 use calculus::review::{Finding, ReviewFault};
 use conditions::first_failure;
@@ -19,17 +18,16 @@ use sheet::Sheet;
 
 // What is found on a sheet that is not closed: open, or the lowest condition that fails.
 fn find<B: Base>(base: &B, ledgers: &Ledgers<'_>, heads: &mut [u16]) -> Result<Finding, ReviewFault>
-    requires few { length heads.old ≤ 65535 }
-    requires named { every (names_below (length heads.old)) (ledgers_of ledgers.now).pairs.rows ≡ true }
-    ensures { result ≡ found (lowest_failing (B.meaning base.now) (branch_of (ledgers_of ledgers.now) (length heads.old))) }
+    ensures { result ≡ found (lowest_failing (B.meaning base.now) (rows_shown (length heads.old) (ledgers_of ledgers.now))) }
 {
     let view = View::over(
+        base,
         heads,
         ledgers.concepts.rows(),
         ledgers.roles.rows(),
         ledgers.pairs.rows(),
     );
-    match first_failure(&view, base) {
+    match first_failure(&view) {
         None => Ok(Finding::Open),
         Some(failure) => Err(ReviewFault::Condition(failure.condition())),
     }

@@ -1,5 +1,7 @@
 -- Where a row stands in a list that is cut, lengthened or mapped.
-use Rattle.std.proofs.Common.{◌≡◌, ℕ, zero, suc, ◌-◌, ◌<◌, ◌≤◌, List, [], ◌∷◌, ◌++◌, map, length, get_or, take, Ok, Err, Result, sym, refl, ap, ◌∙◌, arith}
+use Rattle.std.proofs.Common.{Bor, Some, None, Option, ◌≡◌, ℕ, zero, suc, ◌-◌, ◌<◌, ◌≤◌, List, [], ◌∷◌, ◌++◌, map, length, get_or, take, Ok, Err, Result, sym, refl, ap, ◌∙◌, arith}
+use Rattle.std.specs.Option.{ok_or, option_copied}
+use Rattle.std.specs.Slice.{IsItemAt}
 use Rattle.std.specs.Result.{result_map_both}
 use Rattle.rows.specs.declared.fault.RowFault.{RowFault}
 use Rattle.rows.specs.declared.fault.RowFault.TheVariants.{NoSuchRow}
@@ -14,6 +16,11 @@ pub row_at-beyond : {X : Type 0} (xs : List X) (n : ℕ) → length xs ≤ n →
 row_at-beyond [] n h = refl
 row_at-beyond (x ∷ xs) zero h = absurd (omega arith)
 row_at-beyond (x ∷ xs) (suc n) h = row_at-beyond xs n (omega arith)
+
+-- the element that a slice lends at a number is its row
+pub row_at-lent : {X : Type 0} (xs : List X) (n : ℕ) (r : Option (Bor X)) → IsItemAt xs n r → ok_or (option_copied r) NoSuchRow ≡ row_at xs n
+row_at-lent xs n None (_, _, _, beyond, _) = sym (row_at-beyond xs n beyond)
+row_at-lent xs n (Some x) (_, is, _, inside, _) = ap Ok is ∙ sym (row_at-inside xs n x.now inside.0)
 
 -- below the length no row is refused
 pub row_at-refused : {X : Type 0} (xs : List X) (n : ℕ) (f : RowFault) → row_at xs n ≡ Err f → length xs ≤ n

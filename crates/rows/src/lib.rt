@@ -14,9 +14,5 @@ pub fn row<T: Copy>(rows: &[T], n: usize) -> Result<T, RowFault>
     ensures value { result ≡ row_at rows.now n }
     ensures means { RowAt rows.now n result }
 {
-    if n < rows.len() {
-        Ok(rows[n])
-    } else {
-        Err(RowFault::NoSuchRow)
-    }
+    rows.get(n).copied().ok_or(RowFault::NoSuchRow)
 }

@@ -3,6 +3,5 @@ pub mod FitLaws
 pub mod MissingLaws
 pub mod OpeningLaws
 pub mod PerformLaws
-pub mod PlaceLaws
 pub mod SteppedLaws
 pub mod WritingLaws

@@ -1,21 +1,28 @@
 -- Extending a branch and taking up a right side, where it is known what is held.
-use Rattle.std.proofs.Common.{◌≡◌, ℕ, ◌<◌, Bool, true, false, cond, ◌&&◌, ltb, leb, List, [], ◌∷◌, Some, None, Ok, Err, Option, Result, sym, refl, ap, ◌∙◌, ⊎_elim, arith}
-use Rattle.std.proofs.lemmas.Bool.{cases_Bool, lt-ltb}
+use Rattle.std.proofs.Common.{◌≡◌, ℕ, ◌≤◌, Bool, true, false, cond, ◌&&◌, ltb, leb, List, [], ◌∷◌, Some, None, Ok, Err, Option, Result, sym, refl, ap, ◌∙◌, ⊎_elim, arith}
+use Rattle.std.proofs.lemmas.Bool.{cases_Bool}
+use Rattle.std.specs.List.{list_all}
 use Rattle.kb.specs.declared.axioms.Assertion.{Assertion}
 use Rattle.kb.specs.declared.axioms.Assertion.TheVariants.{Is, Joins, Same, Different, Unlisted}
 use Rattle.kb.specs.Meanings.{Meaning}
-use Rattle.calculus.specs.declared.fault.StepFault.TheVariants.{Full}
+use Rattle.calculus.specs.declared.fault.StepFault.TheVariants.{Full, Premise}
 use Rattle.calculus.specs.declared.row_kinds.ConceptRow.{ConceptRow}
 use Rattle.calculus.specs.declared.row_kinds.PendingRow.{PendingRow}
 use Rattle.calculus.specs.Branches.{Branch, held}
-use Rattle.calculus.specs.Playing.{close, cut_to, extend, free, individuals_after, note, noteable, perform, room}
-use Rattle.calculus.specs.States.{Ledgers, State, branch, branch_of, every}
+use Rattle.calculus.specs.declared.fault.StepFault.{StepFault}
+use Rattle.calculus.specs.Playing.{Played, close, cut_to, extend, free, individuals_after, last_of, note, noteable, perform, room}
+use Rattle.calculus.specs.States.{Ledgers, State, branch, branch_of, fits}
 use Rattle.calculus.specs.StepLaws.{appended, entered, missing, side_of}
 use Rattle.calculus.specs.Table.{Rule, and_then}
 use Rattle.table.specs.declared.adds.Adds.{Adds}
 use Rattle.table.specs.declared.adds.Adds.TheVariants.{Nothing, Fact, Parts, Reached}
 use Rattle.table.specs.FactLists.{adds_of}
-use Rattle.sheet.specs.Writing.{can_write, extend_by, looked_up, take_up_by}
+use Rattle.table.specs.declared.rule.Effect.{Effect}
+use Rattle.table.specs.Rules.{line_of}
+use Rattle.sheet.specs.declared.turns.Turn.TheVariants.{Extends}
+use Rattle.sheet.specs.Turns.{performed}
+use Rattle.sheet.specs.Writing.{can_write, extend_by, looked_up, rows_shown, take_up_by}
+use Rattle.sheet.proofs.FitLaws.{fit-shown}
 use Rattle.sheet.proofs.WritingLaws.{writeMissing-adds}
 
 -- noting a right side changes neither the branch nor the room for facts
@@ -77,20 +84,53 @@ missing-any-individuals m b n (a ∷ facts) =
     λ i. cond (held-any-individuals m b n a i) (missing-any-individuals m b n facts i) (a ∷ missing-any-individuals m (appended (a ∷ []) b) n facts i)
 
 -- the rows looked up for a rule: every need is held, and these of its facts are missing
-pub looked_up_lem : (m : Meaning) (b : Branch) (q : Rule) (new : Adds) → Ok (adds_of new) ≡ looked_up m b q → (every (held m b) q.needs ≡ true) × (adds_of new ≡ missing m b q.adds)
+pub looked_up_lem : (m : Meaning) (b : Branch) (q : Rule) (new : Adds) → Ok (adds_of new) ≡ looked_up m b q → (list_all (held m b) q.needs ≡ true) × (adds_of new ≡ missing m b q.adds)
 looked_up_lem m b q new e =
     ⊎_elim
     (λ h. let k = rw h at e in (h, cc))
     (λ h. let k = rw h at e in let z : ◌≡◌ {A = ℕ} 0 1 = cc in absurd (omega arith))
-    (cases_Bool (every (held m b) q.needs))
+    (cases_Bool (list_all (held m b) q.needs))
 
-module _ (m : Meaning) (s : State) where
-  -- a rule that does not close extends the branch by what is missing
+-- a rule of which a need is not held is refused
+pub perform-refused :
+    (m : Meaning) (s : State) (q : Rule) (n : ℕ) → n ≡ s.numbers.individuals → fits m s ≡ true → s.numbers.individuals ≤ 1024
+    → (f : StepFault) → Err f ≡ looked_up m (rows_shown n s.ledgers) q → Err f ≡ perform m s q
+perform-refused m s q n own fit few f e =
+    let k : Err f ≡ looked_up m (branch s) q = e ∙ ap (λ b. looked_up m b q) (fit-shown m s fit n own few) ∙ ap (λ i. looked_up m (branch_of s.ledgers i) q) own in
+    ⊎_elim
+    (λ h. let r = rw h at k in let z : ◌≡◌ {A = ℕ} 0 1 = cc in absurd (omega arith))
+    (λ h. let r = rw h at k in let q : f ≡ Premise = cc in rw h (ap Err q))
+    (cases_Bool (list_all (held m (branch s)) q.needs))
+
+-- a rule with these needs, that does this, as it was looked up on a branch with the sheet's individuals
+module _ (m : Meaning) (s : State) (needs : List Assertion) (effect known : Effect) (is : effect ≡ known) (n : ℕ) (own : n ≡ s.numbers.individuals) (fit : fits m s ≡ true) (few : s.numbers.individuals ≤ 1024) (new : Adds) (looked : Ok (adds_of new) ≡ looked_up m (rows_shown n s.ledgers) (line_of needs effect)) where
+  found : (list_all (held m (branch s)) (line_of needs known).needs ≡ true) × (adds_of new ≡ missing m (branch s) (line_of needs known).adds)
+  found =
+      looked_up_lem m (branch s) (line_of needs known) new
+      (looked ∙ ap (λ b. looked_up m b (line_of needs effect)) (fit-shown m s fit n own few) ∙ ap (λ k. looked_up m (branch_of s.ledgers k) (line_of needs effect)) own ∙ ap (λ e. looked_up m (branch s) (line_of needs e)) is)
+
+  -- as it ends the branch or extends it
+  performs :
+      perform m s (line_of needs effect)
+      ≡ cond (ltb s.numbers.steps 1000000) (cond (line_of needs known).closes (close m s (last_of s.ledgers.pending.rows)) (extend m s (line_of needs known))) (Err Full)
+  performs = ap (λ e. perform m s (line_of needs e)) is ∙ rw (found.0)
+
+  -- one that does not close extends the branch by what is missing
   pub perform-extends :
-      (q : Rule) (new : Adds) → Ok (adds_of new) ≡ looked_up m (branch s) q → s.numbers.steps < 1000000 → q.closes ≡ false
-      → perform m s q ≡ extend_by s q.fresh q.split new
-  perform-extends q new e l o =
-      let k = looked_up_lem m (branch s) q new e in
-      let few : ltb s.numbers.steps 1000000 ≡ true = lt-ltb s.numbers.steps 1000000 l in
-      rw (k.0, few, o)
-      (extend-by m s q new (k.1 ∙ sym (missing-any-individuals m (branch s) (individuals_after q.fresh s.numbers.individuals) q.adds)))
+      (line_of needs known).closes ≡ false
+      → performed s (Ok (Extends (individuals_after (line_of needs known).fresh s.numbers.individuals) (line_of needs known).split new)) ≡ perform m s (line_of needs effect)
+  perform-extends o =
+      let q = line_of needs known in
+      let same = extend-by m s q new (found.1 ∙ sym (missing-any-individuals m (branch s) (individuals_after q.fresh s.numbers.individuals) q.adds)) in
+      ap (λ p. cond (ltb s.numbers.steps 1000000) p (Err Full)) (sym same)
+      ∙ ap (λ c. cond (ltb s.numbers.steps 1000000) (cond c (close m s (last_of s.ledgers.pending.rows)) (extend m s q)) (Err Full)) (sym o)
+      ∙ sym performs
+
+  -- one that closes ends it
+  pub perform-closes :
+      (p : Result Played StepFault) → p ≡ close m s (last_of s.ledgers.pending.rows) → (line_of needs known).closes ≡ true
+      → cond (ltb s.numbers.steps 1000000) p (Err Full) ≡ perform m s (line_of needs effect)
+  perform-closes p e o =
+      ap (λ p. cond (ltb s.numbers.steps 1000000) p (Err Full)) e
+      ∙ ap (λ c. cond (ltb s.numbers.steps 1000000) (cond c (close m s (last_of s.ledgers.pending.rows)) (extend m s (line_of needs known))) (Err Full)) (sym o)
+      ∙ sym performs

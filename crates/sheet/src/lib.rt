@@ -8,6 +8,7 @@ mod opening;
 mod playing;
 mod readiness;
 mod state;
+mod turns;
 mod writing;
 
 pub use state::Sheet;

@@ -1,33 +1,14 @@
 // What every call on an opened sheet looks at first: whether base and ledgers are the sheet's.
 ghost use Rattle.calculus.specs.Playing.{ready};
-ghost use Rattle.calculus.specs.States.{fits, same_counts, same_lengths};
+ghost use Rattle.calculus.specs.States.{fits};
 ghost use Rattle.ledgers.specs.Contents.{ledgers_of};
 ghost use Rattle.sheet.specs.States.{state_of};
 ghost use Rattle.std.specs.Prelude.{◌≡◌};
 
 use crate::state::Sheet;
 use calculus::fault::StepFault;
-use calculus::lengths::Lengths;
 use kb::base::Base;
-use kb::counts::Counts;
 use ledgers::Ledgers;
-
-fn are_same_lengths(a: &Lengths, b: &Lengths) -> bool
-    ensures { result ≡ same_lengths a.now b.now }
-{
-    a.concepts == b.concepts && a.roles == b.roles && a.pairs == b.pairs && a.pending == b.pending
-}
-
-fn are_same_counts(a: &Counts, b: &Counts) -> bool
-    ensures { result ≡ same_counts a.now b.now }
-{
-    a.entries == b.entries
-        && a.roles == b.roles
-        && a.individuals == b.individuals
-        && a.assertions == b.assertions
-        && a.inclusions == b.inclusions
-        && a.keys == b.keys
-}
 
 impl Sheet {
     /// Whether the base and the ledgers are the sheet's: equal counts, sizes and numbers of rows, and every row within base and
@@ -35,9 +16,9 @@ impl Sheet {
     pub fn fits<B: Base>(&self, base: &B, ledgers: &Ledgers<'_>) -> bool
         ensures { result ≡ fits (B.meaning base.now) (state_of self.now (ledgers_of ledgers.now)) }
     {
-        are_same_counts(&base.counts(), &self.base)
-            && are_same_lengths(&ledgers.sizes(), &self.sizes)
-            && are_same_lengths(&ledgers.row_counts(), &self.rows)
+        base.counts() == self.base
+            && ledgers.sizes() == self.sizes
+            && ledgers.row_counts() == self.rows
             && ledgers.rows_fit(&self.base, self.individuals)
     }
 

@@ -17,7 +17,7 @@ pub struct Sheet {
     pub(crate) individuals: u16,
     // The steps accepted since opening.
     pub(crate) steps: u32,
-    // Whether it is closed.
+    // Whether it is closed. No type of its own for a closed sheet: a host keeps one sheet, and each call says what it does on both.
     pub(crate) closed: bool,
     ghost few: { individuals ≤ 1024 },
 }

@@ -1,4 +1,5 @@
-// Writing what a rule adds and the branch does not hold.
+// Writing what a rule adds and the branch does not hold. Functions, since facts to add and ledgers are of other crates: a method
+// would want a trait that one type has.
 ghost use Rattle.calculus.specs.Playing.{cut_to, free};
 ghost use Rattle.ledger.specs.Books.{book};
 ghost use Rattle.ledgers.specs.Contents.{ledgers_of};
@@ -19,10 +20,10 @@ fn free_places<T: Copy>(ledger: &Ledger<'_, T>) -> usize
 }
 
 // Whether there is a place for each of the facts.
-pub(crate) fn can_write(ledgers: &Ledgers<'_>, adds: &Adds) -> bool
-    ensures { result ≡ can_write adds.now (ledgers_of ledgers.now) }
+pub(crate) fn can_write(ledgers: &Ledgers<'_>, adds: Adds) -> bool
+    ensures { result ≡ can_write adds (ledgers_of ledgers.now) }
 {
-    match *adds {
+    match adds {
         Adds::Nothing => true,
         Adds::Fact(fact) => ledgers.has_room_for(&fact),
         Adds::Parts(_, _, _) => free_places(&ledgers.concepts) >= 2,
@@ -33,23 +34,21 @@ pub(crate) fn can_write(ledgers: &Ledgers<'_>, adds: &Adds) -> bool
 }
 
 // How many rows the facts are. An unlisted assertion is none.
-pub(crate) fn row_count(adds: &Adds) -> usize
-    ensures { result ≡ rows_in adds.now }
+pub(crate) fn row_count(adds: Adds) -> usize
+    ensures { result ≡ rows_in adds }
 {
-    match *adds {
-        Adds::Nothing => 0,
-        Adds::Fact(Assertion::Unlisted(_)) => 0,
+    match adds {
+        Adds::Nothing | Adds::Fact(Assertion::Unlisted(_)) => 0,
         Adds::Fact(_) => 1,
-        Adds::Parts(_, _, _) => 2,
-        Adds::Reached(_, _, _, _) => 2,
+        Adds::Parts(_, _, _) | Adds::Reached(_, _, _, _) => 2,
     }
 }
 
 // Writes each of the facts.
-pub(crate) fn write_adds(ledgers: &mut Ledgers<'_>, adds: &Adds)
-    ensures { ledgers_of ledgers.new ≡ write_adds adds.now (ledgers_of ledgers.old) }
+pub(crate) fn write_adds(ledgers: &mut Ledgers<'_>, adds: Adds)
+    ensures { ledgers_of ledgers.new ≡ write_adds adds (ledgers_of ledgers.old) }
 {
-    match *adds {
+    match adds {
         Adds::Nothing => {}
         Adds::Fact(fact) => ledgers.write(fact),
         Adds::Parts(d, e, x) => {

@@ -1,49 +1,28 @@
 // The line of a key step.
 ghost use Rattle.std.specs.Prelude.{◌≡◌, ◌+◌, ◌*◌, ◌≤◌, ◌++◌, length};
-ghost use Rattle.calculus.specs.Table.{key_rule, sharing};
+ghost use Rattle.calculus.specs.Table.{key_rule, rule, sharing};
+ghost use Rattle.calculus.specs.declared.step.Step.TheVariants.{Key as KeyStep};
 ghost use Rattle.table.specs.FactLists.{facts_of};
-ghost use Rattle.table.specs.KeyLines.{key_line, link_line};
 ghost use Rattle.table.specs.Rules.{ruled_as};
 
 use crate::adds::Adds;
 use crate::facts::Facts;
-use crate::range::{all_below, below, inside};
-use crate::rule::Rule;
+use crate::lines::{Lines, inside};
+use crate::rule::{Effect, Rule};
 use calculus::fault::StepFault;
-use kb::axioms::{Assertion, Key, RolePair, RolePairs};
+use kb::axioms::{Assertion, Key, RolePair};
 use kb::base::Base;
-use kb::names::{Concept, Individual};
+use kb::names::Individual;
 
 // Each pair's roles join x and y to its shared value.
 fn share(needs: &mut Facts, x: Individual, y: Individual, pairs: &[RolePair], zs: &[Individual])
     requires pairs_len_bound { length (facts_of needs.old) + 2 * length pairs.now ≤ 10 }
-    requires pairs_in_bounds { length pairs.now ≤ length zs.now }
     ensures { facts_of needs.new ≡ facts_of needs.old ++ sharing x y pairs.now zs.now }
 {
-    for j in 0..pairs.len() {
-        needs.push(Assertion::Joins(pairs[j].left, x, zs[j]));
-        needs.push(Assertion::Joins(pairs[j].right, y, zs[j]));
+    for (pair, z) in pairs.iter().zip(zs) {
+        needs.push(Assertion::Joins(pair.left, x, *z));
+        needs.push(Assertion::Joins(pair.right, y, *z));
     }
-}
-
-// By a key with these classes and pairs.
-fn link(
-    c: Concept,
-    d: Concept,
-    x: Individual,
-    y: Individual,
-    pairs: &[RolePair],
-    zs: &[Individual],
-) -> Result<Rule, StepFault>
-    requires { length pairs.now ≤ 4 }
-    ensures { ruled_as result ≡ link_line c d x y pairs.now zs.now }
-{
-    if zs.len() != pairs.len() {
-        return Err(StepFault::Kind);
-    }
-    let mut needs = Facts::two(Assertion::Is(c, x), Assertion::Is(d, y));
-    share(&mut needs, x, y, pairs, zs);
-    Ok(Rule::adding(needs, Adds::Fact(Assertion::Same(x, y))))
 }
 
 // By a key, with one shared value for each pair.
@@ -53,25 +32,28 @@ fn key_rule(x: Individual, y: Individual, zs: &[Individual], key: Key) -> Result
     let Key::Link(c, d, pairs) = key else {
         return Err(StepFault::Kind);
     };
-    match pairs {
-        RolePairs::One(p) => link(c, d, x, y, &[p], zs),
-        RolePairs::Two(p, q) => link(c, d, x, y, &[p, q], zs),
-        RolePairs::Three(p, q, s) => link(c, d, x, y, &[p, q, s], zs),
-        RolePairs::Four(p, q, s, t) => link(c, d, x, y, &[p, q, s, t], zs),
+    let pairs = pairs.list();
+    if zs.len() != pairs.len() {
+        return Err(StepFault::Kind);
     }
+    let mut needs = Facts::of(&[Assertion::Is(c, x), Assertion::Is(d, y)]);
+    share(&mut needs, x, y, &pairs, zs);
+    let effect = Effect::Adds(Adds::Fact(Assertion::Same(x, y)));
+    Ok(Rule { needs, effect })
 }
 
-/// By a key, from its classes and shared values: x same as y.
-pub(crate) fn key<B: Base>(
-    base: &B,
-    individuals: u16,
-    k: usize,
-    x: Individual,
-    y: Individual,
-    zs: &[Individual],
-) -> Result<Rule, StepFault>
-    ensures { ruled_as result ≡ key_line (B.meaning base.now) individuals k x y zs.now }
-{
-    let in_range = below(individuals, x) && below(individuals, y) && all_below(individuals, zs);
-    key_rule(x, y, zs, inside(in_range, base.key(k)?)?)
+impl<B: Base> Lines<'_, B> {
+    /// By a key, from its classes and shared values: x same as y.
+    pub(crate) fn key(
+        &self,
+        k: usize,
+        x: Individual,
+        y: Individual,
+        zs: &[Individual],
+    ) -> Result<Rule, StepFault>
+        ensures { ruled_as result ≡ rule (B.meaning self.now.base.now) self.now.individuals (KeyStep k x y zs.entry) }
+    {
+        let in_range = self.has(x) && self.has(y) && self.has_all(zs);
+        key_rule(x, y, zs, inside(in_range, self.base.key(k)?)?)
+    }
 }

@@ -13,11 +13,12 @@ use kb::base::Base;
 pub mod adds;
 pub mod facts;
 mod key;
-mod range;
+mod lines;
 pub mod rule;
 mod shapes;
 mod steps;
 
+use lines::Lines;
 use rule::Rule;
 
 /// The line of a step on a sheet with so many individuals, or why it is refused: a number out of range (7), then a concept of
@@ -25,16 +26,17 @@ use rule::Rule;
 pub fn rule_of<B: Base>(base: &B, individuals: u16, step: &Step<'_>) -> Result<Rule, StepFault>
     ensures { ruled_as result ≡ rule (B.meaning base.now) individuals step.now }
 {
+    let lines = Lines { base, individuals };
     match *step {
-        Step::Take(k) => steps::take(base, individuals, k),
-        Step::Both(c, x) => steps::both(base, individuals, c, x),
-        Step::All(c, x, y) => steps::all(base, individuals, c, x, y),
-        Step::Some(c, x) => steps::some(base, individuals, c, x),
-        Step::Include(k, x) => steps::include(base, individuals, k, x),
-        Step::Key(k, x, y, zs) => key::key(base, individuals, k, x, y, zs),
-        Step::Either(c, x) => steps::either(base, individuals, c, x),
-        Step::Cut(c, x) => steps::cut(base, individuals, c, x),
-        Step::Clash(c, x) => steps::clash(base, individuals, c, x),
-        Step::Apart(x, y) => steps::apart(base, individuals, x, y),
+        Step::Take(k) => lines.take(k),
+        Step::Both(c, x) => lines.both(c, x),
+        Step::All(c, x, y) => lines.all(c, x, y),
+        Step::Some(c, x) => lines.some(c, x),
+        Step::Include(k, x) => lines.include(k, x),
+        Step::Key(k, x, y, zs) => lines.key(k, x, y, zs),
+        Step::Either(c, x) => lines.either(c, x),
+        Step::Cut(c, x) => lines.cut(c, x),
+        Step::Clash(c, x) => lines.clash(c, x),
+        Step::Apart(x, y) => lines.apart(x, y),
     }
 }

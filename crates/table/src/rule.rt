@@ -1,12 +1,10 @@
 // A line of the table.
-ghost use Rattle.calculus.specs.Table.{adding, adding_fresh, closing, splitting};
 ghost use Rattle.table.specs.FactLists.{adds_of, facts_of};
-ghost use Rattle.table.specs.Rules.{rule_of};
-ghost use Rattle.std.specs.Prelude.{◌≡◌};
+ghost use Rattle.table.specs.Rules.{line_of, rule_of};
+ghost use Rattle.std.specs.Prelude.{◌≡◌, ◌≤◌, [], length};
 
 use crate::adds::Adds;
 use crate::facts::Facts;
-use calculus::row_kinds::ConceptRow;
 use kb::axioms::Assertion;
 use kb::names::{Concept, Individual};
 
@@ -15,61 +13,53 @@ use kb::names::{Concept, Individual};
 pub struct Rule {
     /// What must be held.
     pub needs: Facts,
-    /// What is written unless it is held.
-    pub adds: Adds,
-    /// Whether the next individual comes into being.
-    pub fresh: bool,
-    /// The right side of a split, which is pending while the left side is worked on.
-    pub split: Option<ConceptRow>,
-    /// Whether the branch ends.
-    pub closes: bool,
+    /// What is done then.
+    pub effect: Effect,
+}
+
+/// What a line of the table does where its needs are held.
+#[derive(Clone, Copy, Debug, PartialEq, Eq)]
+pub enum Effect {
+    /// Writes facts unless they are held.
+    Adds(Adds),
+    /// The same, with facts about the next individual: there is one individual more then.
+    AddsFresh(Adds),
+    /// Notes the right concept of an individual as pending, and writes the left one unless it is held.
+    Splits {
+        left: Concept,
+        right: Concept,
+        individual: Individual,
+    },
+    /// Ends the branch.
+    Closes,
 }
 
 impl Rule {
-    /// A line that adds facts.
-    pub(crate) fn adding(needs: Facts, adds: Adds) -> Rule
-        ensures { rule_of result ≡ adding (facts_of needs) (adds_of adds) }
+    /// The line with these needs and this effect.
+    pub(crate) fn new(needs: &[Assertion], effect: Effect) -> Rule
+        requires { length needs.now ≤ 10 }
+        ensures { rule_of result ≡ line_of needs.now effect }
     {
         Rule {
-            needs,
-            adds,
-            fresh: false,
-            split: None,
-            closes: false,
+            needs: Facts::of(needs),
+            effect,
         }
     }
+}
 
-    /// A line that adds facts about the next individual.
-    pub(crate) fn adding_fresh(needs: Facts, adds: Adds) -> Rule
-        ensures { rule_of result ≡ adding_fresh (facts_of needs) (adds_of adds) }
+impl Effect {
+    /// What is written unless it is held.
+    pub fn adds(self) -> Adds
+        ensures { adds_of result ≡ (line_of [] self).adds }
     {
-        Rule {
-            fresh: true,
-            ..Rule::adding(needs, adds)
-        }
-    }
-
-    /// A line that adds the left concept of x, with the right one pending.
-    pub(crate) fn splitting(needs: Facts, left: Concept, right: Concept, x: Individual) -> Rule
-        ensures { rule_of result ≡ splitting (facts_of needs) left right x }
-    {
-        let side = ConceptRow {
-            concept: right,
-            individual: x,
-        };
-        Rule {
-            split: Some(side),
-            ..Rule::adding(needs, Adds::Fact(Assertion::Is(left, x)))
-        }
-    }
-
-    /// A line that closes the branch.
-    pub(crate) fn closing(needs: Facts) -> Rule
-        ensures { rule_of result ≡ closing (facts_of needs) }
-    {
-        Rule {
-            closes: true,
-            ..Rule::adding(needs, Adds::Nothing)
+        match self {
+            Effect::Adds(adds) | Effect::AddsFresh(adds) => adds,
+            Effect::Splits {
+                left,
+                individual,
+                ..
+            } => Adds::Fact(Assertion::Is(left, individual)),
+            Effect::Closes => Adds::Nothing,
         }
     }
 }

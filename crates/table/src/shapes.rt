@@ -2,7 +2,7 @@
 ghost use Rattle.calculus.specs.Table.{shape_in, shape_of};
 ghost use Rattle.std.specs.Prelude.{◌≡◌, ◌%◌};
 
-use crate::range::inside;
+use crate::lines::{Lines, inside};
 use calculus::fault::StepFault;
 use calculus::shape::Shape;
 use kb::base::Base;
@@ -22,17 +22,15 @@ fn shape_of(even: bool, entry: Entry) -> Shape
     }
 }
 
-/// The shape of a concept, if the lexicon has its entry and the individuals named are in range.
-pub(crate) fn shape_in<B: Base>(
-    base: &B,
-    individuals: u16,
-    in_range: bool,
-    c: Concept,
-) -> Result<Shape, StepFault>
-    ensures { result ≡ shape_in (B.meaning base.now) individuals in_range c }
-{
-    match base.entry(c.entry_number()) {
-        Ok(entry) => inside(in_range, shape_of(c.0 % 2 == 0, entry)),
-        Err(_) => Err(StepFault::Range),
+impl<B: Base> Lines<'_, B> {
+    /// The shape of a concept, if the lexicon has its entry and the individuals named are in range.
+    pub(crate) fn shape(&self, c: Concept, in_range: bool) -> Result<Shape, StepFault>
+        ensures { result ≡ shape_in (B.meaning self.now.base.now) self.now.individuals in_range c }
+    {
+        let entry = self
+            .base
+            .entry(c.entry_number())
+            .map_err(|_| StepFault::Range)?;
+        inside(in_range, shape_of(c.0 % 2 == 0, entry))
     }
 }

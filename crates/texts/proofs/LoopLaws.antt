@@ -8,10 +8,6 @@ use Rattle.texts.specs.declared.fault.LineFault.{LineFault}
 use Rattle.texts.specs.declared.fault.TextFault.TheVariants.{Line}
 use Rattle.texts.specs.Playing.{LineDone, PlayedLine, PlayedText, TextDone, play_line, play_lines, played_on}
 
--- equal refusals refuse alike
-Err_injective : {X E : Type 0} {f h : E} → ◌≡◌ {A = Result X E} (Err f) (Err h) → f ≡ h
-Err_injective e = cc
-
 -- a line that was played, from what it answered and left
 done_Ok : (p : Result PlayedLine LineFault) (s : State) (end : ℕ) (t : State) → LineDone p s (Ok end) t → p ≡ Ok (record { end = end; state = t })
 done_Ok (Ok q) s end t d =
@@ -25,7 +21,7 @@ record Refused (p : Result PlayedLine LineFault) (s : State) (f : LineFault) (t 
 
 done_Err : (p : Result PlayedLine LineFault) (s : State) (f : LineFault) (t : State) → LineDone p s (Err f) t → Refused p s f t
 done_Err (Ok q) s f t d = Err_not_Ok d.value
-done_Err (Err h) s f t d = let same : h ≡ f = Err_injective (sym d.value) in record { is = ap Err same; state = d.state }
+done_Err (Err h) s f t d = let told = d.value in let same : h ≡ f = cc in record { is = ap Err same; state = d.state }
 
 module _ (m : Meaning) (scratch : ℕ) (text : List ℕ) where
   pub lines-over : (most n from : ℕ) (s : State) → length text ≤ from → play_lines m scratch text most n from s ≡ record { answer = Ok n; state = s }

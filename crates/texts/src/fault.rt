@@ -7,7 +7,7 @@ use calculus::fault::StepFault;
 use words::fault::ReadFault;
 
 /// Why a line is not played.
-#[derive(Clone, Copy)]
+#[derive(Clone, Copy, Debug, PartialEq, Eq)]
 pub enum LineFault {
     /// It is no line: 12.
     Unreadable,
@@ -32,7 +32,7 @@ impl From<StepFault> for LineFault {
 }
 
 /// Why a text is not played to its end.
-#[derive(Clone, Copy)]
+#[derive(Clone, Copy, Debug, PartialEq, Eq)]
 pub enum TextFault {
     /// The text is too long: 4.
     Size,
@@ -41,7 +41,7 @@ pub enum TextFault {
 }
 
 impl LineFault {
-    /// The first of the numbers that the fault is told by.
+    /// The first of the numbers that the fault is told by. They are published (docs/NUMBERS.md).
     pub fn number(self) -> u16
         ensures { result ≡ slice_index (line_fault_numbers self) 0 }
     {
@@ -53,7 +53,7 @@ impl LineFault {
 }
 
 impl TextFault {
-    /// The first of the numbers that the fault is told by.
+    /// The first of the numbers that the fault is told by. They are published (docs/NUMBERS.md).
     pub fn number(self) -> u16
         ensures { result ≡ slice_index (text_fault_numbers self) 0 }
     {

@@ -16,7 +16,8 @@ use sheet::Sheet;
 
 pub mod fault;
 
-// Reads and plays the line that begins at a place, and answers the place behind it.
+// Reads and plays the line that begins at a place, and answers the place behind it. Base, ledgers and scratch are no struct's:
+// the host lends them in each call.
 fn play_line<B: Base>(
     sheet: &mut Sheet,
     base: &B,
@@ -45,6 +46,7 @@ fn play_lines<B: Base>(
 {
     let mut from = 0;
     let mut line = 0;
+    // No iterator is plainer: the next line begins where the reading of this one ends, and is played on the sheet that it left.
     while from < text.len() {
         match play_line(sheet, base, ledgers, scratch, text, from) {
             Ok(end) => from = end,

@@ -7,6 +7,7 @@ use Rattle.kb.specs.Check.{InRange, checked_rows, sizes_accepted}
 use Rattle.kb.specs.Interpretations.{Lawful, Satisfies}
 use Rattle.kb.specs.Meanings.{Meaning, counts_of}
 use Rattle.kb.specs.Questions.{asking}
+use Rattle.calculus.specs.declared.review.Condition.{Condition}
 use Rattle.calculus.specs.declared.review.Finding.{Finding}
 use Rattle.calculus.specs.declared.review.Finding.TheVariants.{Closed, Open}
 use Rattle.calculus.specs.declared.review.ReviewFault.{ReviewFault}
@@ -29,10 +30,10 @@ use Rattle.theorem.proofs.RunSound.{closed_is_sound, run_in_range}
 use Rattle.theorem.proofs.WalksSatisfy.{open_walks_satisfy}
 
 -- review, as what it comes to after its three tests
-reviewed : Bool → Bool → Bool → Option ℕ → Result Finding ReviewFault
+reviewed : Bool → Bool → Bool → Option Condition → Result Finding ReviewFault
 reviewed fit long closed lowest = cond fit (cond long (cond closed (Ok Closed) (found lowest)) (Err Full)) (Err Changed)
 
-reviewed-closed : (fit long closed : Bool) (lowest : Option ℕ) → reviewed fit long closed lowest ≡ Ok Closed → (fit ≡ true) × (long ≡ true) × (closed ≡ true)
+reviewed-closed : (fit long closed : Bool) (lowest : Option Condition) → reviewed fit long closed lowest ≡ Ok Closed → (fit ≡ true) × (long ≡ true) × (closed ≡ true)
 unfolding reviewed
 reviewed-closed true true true lowest e = (refl, refl, refl)
 reviewed-closed true true false None e = let z : ◌≡◌ {A = ℕ} 0 1 = cc in absurd (omega arith)
@@ -40,7 +41,7 @@ reviewed-closed true true false (Some k) e = let z : ◌≡◌ {A = ℕ} 0 1 = c
 reviewed-closed true false closed lowest e = let z : ◌≡◌ {A = ℕ} 0 1 = cc in absurd (omega arith)
 reviewed-closed false long closed lowest e = let z : ◌≡◌ {A = ℕ} 0 1 = cc in absurd (omega arith)
 
-reviewed_open : (fit long closed : Bool) (lowest : Option ℕ) → reviewed fit long closed lowest ≡ Ok Open → (fit ≡ true) × (long ≡ true) × (closed ≡ false) × (lowest ≡ None)
+reviewed_open : (fit long closed : Bool) (lowest : Option Condition) → reviewed fit long closed lowest ≡ Ok Open → (fit ≡ true) × (long ≡ true) × (closed ≡ false) × (lowest ≡ None)
 unfolding reviewed
 reviewed_open true true true lowest e = let z : ◌≡◌ {A = ℕ} 0 1 = cc in absurd (omega arith)
 reviewed_open true true false None e = (refl, refl, refl, refl)

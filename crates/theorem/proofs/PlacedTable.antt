@@ -1,7 +1,7 @@
 -- What the lines of the table write, over a base in range and on a branch whose rows lie as they should.
 use Rattle.std.proofs.Common.{◌≡◌, ℕ, ◌%◌, ◌<◌, Bool, true, false, ◌&&◌, eqb, ltb, ◌⊎◌, List, [], ◌∷◌, length, Ok, Err, Result, sym, refl, subst, inl, inr, ⊎_elim, arith}
 use Rattle.std.proofs.lemmas.Bool.{and_from, and_parts, eqb-true, ltb-true}
-use Rattle.std.specs.List.{AllByRecursion}
+use Rattle.std.specs.List.{AllByRecursion, list_all}
 use Rattle.rows.proofs.RowLaws.{row_at-found}
 use Rattle.rows.specs.declared.fault.RowFault.{RowFault}
 use Rattle.rows.specs.Rows.{row_at}
@@ -32,7 +32,6 @@ use Rattle.calculus.specs.declared.shape.Shape.TheVariants.{Plain, Both as BothS
 use Rattle.calculus.specs.declared.step.Step.{Step}
 use Rattle.calculus.specs.declared.step.Step.TheVariants.{Take, Both, All as AllStep, Some as SomeStep, Include, Key, Either, Cut, Clash, Apart}
 use Rattle.calculus.specs.Branches.{Branch, equal, held}
-use Rattle.calculus.specs.States.{every}
 use Rattle.calculus.specs.Table.{Rule, adding, adding_fresh, all_below, all_rule, below, both_rule, closing, either_rule, entry_shape, include_rule, key_rule, row_in, rule, shape_in, shape_of, sharing, some_rule, splitting}
 use Rattle.calculus.proofs.Accepting.{Err_not_Ok, Ok_injective, and_then_Ok, cond_Ok, inside_Ok, row_in_Ok}
 use Rattle.theorem.proofs.PlacedEqual.{sharing-cases}
@@ -79,7 +78,7 @@ module _ (m : Meaning) where
   -- split; or that closes.
   pub data Line (b : Branch) : Rule → Type 0 where
     adds-rows : (needs adds : List Assertion) → AllByRecursion (Placeable m b.individuals) adds → Line b (adding needs adds)
-    adds-held : (needs adds : List Assertion) → every (held m b) adds ≡ true → Line b (adding needs adds)
+    adds-held : (needs adds : List Assertion) → list_all (held m b) adds ≡ true → Line b (adding needs adds)
     adds-new :
         (needs : List Assertion) (r : Role) (x : Individual) (d : Concept) → r.0 < m.roles → OfBranch b x → entry_number d < length m.entries
         → Line b (adding_fresh needs (Joins r x (record { 0 = b.individuals }) ∷ Is d (record { 0 = b.individuals }) ∷ []))
@@ -166,32 +165,32 @@ module _ (m : Meaning) where
       -- two that share the value of a pair are equal already, or both are of the base
       pair-shared :
           (x y : Individual) (p : RolePair) (ps : List RolePair) (zs : List Individual) → length zs ≡ length (p ∷ ps)
-          → every (held m b) (sharing x y (p ∷ ps) zs) ≡ true → (equal b.pairs x y ≡ true) ⊎ (OfBase m x × OfBase m y)
+          → list_all (held m b) (sharing x y (p ∷ ps) zs) ≡ true → (equal b.pairs x y ≡ true) ⊎ (OfBase m x × OfBase m y)
       pair-shared x y p ps [] l e = absurd (omega arith)
       pair-shared x y p ps (z ∷ zs) l e =
           let f = and_parts (held m b (Joins p.left x z)) _ e in
-          let g = and_parts (held m b (Joins p.right y z)) (every (held m b) (sharing x y ps zs)) f.1 in
+          let g = and_parts (held m b (Joins p.right y z)) (list_all (held m b) (sharing x y ps zs)) f.1 in
           ⊎_elim (λ q. inl (equal-from-Equal b.pairs x y q)) inr
           (sharing-cases m b placed p.left p.right x y z (held-means m b (Joins p.left x z) f.0) (held-means m b (Joins p.right y z) g.0))
 
       -- a key has a pair
       key-shared :
           (x y : Individual) (pairs : RolePairs) (zs : List Individual) → length zs ≡ length (pair_list pairs)
-          → every (held m b) (sharing x y (pair_list pairs) zs) ≡ true → (equal b.pairs x y ≡ true) ⊎ (OfBase m x × OfBase m y)
+          → list_all (held m b) (sharing x y (pair_list pairs) zs) ≡ true → (equal b.pairs x y ≡ true) ⊎ (OfBase m x × OfBase m y)
       key-shared x y (One p) zs l e = pair-shared x y p [] zs l e
       key-shared x y (Two p q) zs l e = pair-shared x y p (q ∷ []) zs l e
       key-shared x y (Three p q s) zs l e = pair-shared x y p (q ∷ s ∷ []) zs l e
       key-shared x y (Four p q s t) zs l e = pair-shared x y p (q ∷ s ∷ t ∷ []) zs l e
 
-      key_line_lem : (x y : Individual) (zs : List Individual) (key : KeyRow) (r : Rule) → key_rule x y zs key ≡ Ok r → every (held m b) r.needs ≡ true → Line b r
+      key_line_lem : (x y : Individual) (zs : List Individual) (key : KeyRow) (r : Rule) → key_rule x y zs key ≡ Ok r → list_all (held m b) r.needs ≡ true → Line b r
       key_line_lem x y zs (UnlistedKey count) r e h = Err_not_Ok e
       key_line_lem x y zs (Link c d pairs) r e h =
           let needs = Is c x ∷ Is d y ∷ sharing x y (pair_list pairs) zs in
           let q = cond_Ok (eqb (length zs) (length (pair_list pairs))) (Ok (adding needs (Same x y ∷ []))) Kind r e in
           let is : adding needs (Same x y ∷ []) ≡ r = Ok_injective q.1 in
-          let held-needs : every (held m b) needs ≡ true = subst (λ (u : Rule). every (held m b) u.needs ≡ true) (sym is) h in
-          let f = and_parts (held m b (Is c x)) (every (held m b) (Is d y ∷ sharing x y (pair_list pairs) zs)) held-needs in
-          let g = and_parts (held m b (Is d y)) (every (held m b) (sharing x y (pair_list pairs) zs)) f.1 in
+          let held-needs : list_all (held m b) needs ≡ true = subst (λ (u : Rule). list_all (held m b) u.needs ≡ true) (sym is) h in
+          let f = and_parts (held m b (Is c x)) (list_all (held m b) (Is d y ∷ sharing x y (pair_list pairs) zs)) held-needs in
+          let g = and_parts (held m b (Is d y)) (list_all (held m b) (sharing x y (pair_list pairs) zs)) f.1 in
           subst (Line b) is
           (⊎_elim
           (λ t. adds-held needs (Same x y ∷ []) (and_from (equal b.pairs x y) true t refl))
@@ -199,7 +198,7 @@ module _ (m : Meaning) where
           (key-shared x y pairs zs (eqb-true (length zs) (length (pair_list pairs)) q.0) g.1))
 
       -- Every line of the table whose needs are held writes only what may be written.
-      pub table-placed : (t : Step) (r : Rule) → rule m n t ≡ Ok r → every (held m b) r.needs ≡ true → Line b r
+      pub table-placed : (t : Step) (r : Rule) → rule m n t ≡ Ok r → list_all (held m b) r.needs ≡ true → Line b r
       table-placed (Take k) r e h =
           let p = and_then_Ok (row_in m n true (row_at m.assertions k)) (λ a. Ok (adding [] (a ∷ []))) r e in
           let q = row_in_Ok m n true (row_at m.assertions k) p.0 p.1 in

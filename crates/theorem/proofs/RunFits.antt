@@ -1,6 +1,6 @@
 -- On every sheet that is reached, base and ledgers are the sheet's: no step or review of a run is refused with 5.
 use Rattle.std.proofs.Common.{◌≡◌, ℕ, ◌<◌, ◌≤◌, Bool, true, ◌⊎◌, List, [], ◌∷◌, ◌++◌, reverse, length, take, Some, None, Ok, Err, Option, Result, sym, refl, ap, ◌∙◌, subst, inl, inr, ⊎_elim, arith, length-append}
-use Rattle.std.specs.List.{AllByRecursion}
+use Rattle.std.specs.List.{AllByRecursion, list_all}
 use Rattle.std.proofs.ByRecursion.{All-weaker}
 use Rattle.std.proofs.lemmas.List.{length-take-le, reverse-reverse}
 use Rattle.std.proofs.lemmas.Bool.{and_from, cases_Bool, eq-eqb, le-leb, lt-ltb}
@@ -19,7 +19,7 @@ use Rattle.calculus.specs.declared.step.Step.{Step}
 use Rattle.calculus.specs.Branches.{held}
 use Rattle.calculus.specs.Playing.{Played, left, opened, play}
 use Rattle.calculus.specs.Runs.{Run, start, step}
-use Rattle.calculus.specs.States.{Ledgers, State, branch, every, fits, pair_row_fits, pending_row_fits, row_counts, rows_fit, same_counts, same_lengths, sizes_of}
+use Rattle.calculus.specs.States.{Ledgers, State, branch, fits, pair_row_fits, pending_row_fits, row_counts, rows_fit, same_counts, same_lengths, sizes_of}
 use Rattle.calculus.specs.StepLaws.{ClosedSheet, Extended, StepLaw, TakenUp, cut_back, side_of}
 use Rattle.calculus.specs.Table.{Rule, rule}
 use Rattle.calculus.proofs.AcceptedLaws.{step-law}
@@ -37,9 +37,9 @@ snoc_view [] = inl refl
 snoc_view (x ∷ xs) =
     inr (⊎_elim (λ e. ([], x, ap (λ ys. x ∷ ys) e)) (λ v. (x ∷ v.0, v.1, ap (λ ys. x ∷ ys) v.2)) (snoc_view xs))
 
-all_every : {A : Type 0} (P : A → Type 0) (test : A → Bool) → ((x : A) → P x → test x ≡ true) → (xs : List A) → AllByRecursion P xs → every test xs ≡ true
+all_every : {A : Type 0} (P : A → Type 0) (test : A → Bool) → ((x : A) → P x → test x ≡ true) → (xs : List A) → AllByRecursion P xs → list_all test xs ≡ true
 all_every P test passes [] a = refl
-all_every P test passes (x ∷ xs) a = and_from (test x) (every test xs) (passes x a.0) (all_every P test passes xs a.1)
+all_every P test passes (x ∷ xs) a = and_from (test x) (list_all test xs) (passes x a.0) (all_every P test passes xs a.1)
 
 same_lengths_lem : (a b : Lengths) → a ≡ b → same_lengths a b ≡ true
 same_lengths_lem a b e =
@@ -129,7 +129,7 @@ module _ (m : Meaning) where
       (and_from _ _ (le-leb d.roles (length s.ledgers.roles.rows) k.roles)
       (le-leb d.pairs (length s.ledgers.pairs.rows) k.pairs))))))
 
-  pending-fits : (s : State) → PendingNoted s → every (pending_row_fits (counts_of m) s.numbers.individuals (row_counts s.ledgers)) s.ledgers.pending.rows ≡ true
+  pending-fits : (s : State) → PendingNoted s → list_all (pending_row_fits (counts_of m) s.numbers.individuals (row_counts s.ledgers)) s.ledgers.pending.rows ≡ true
   unfolding PendingNoted
   pending-fits s k =
       let c = length s.ledgers.concepts.rows in
@@ -188,7 +188,7 @@ module _ (m : Meaning) where
     law : StepLaw m scratch t s
     law = step-law m scratch t s held_stays
 
-    line : (q : Rule) × (rule m s.numbers.individuals t ≡ Ok q) × (every (held m (branch s)) q.needs ≡ true)
+    line : (q : Rule) × (rule m s.numbers.individuals t ≡ Ok q) × (list_all (held m (branch s)) q.needs ≡ true)
     unfolding law
     line = let a = law.accepted.exactly.0 (p, e) in (a.0, a.1.table, every-from _ a.0.needs a.1.needs)
 

@@ -1,7 +1,7 @@
 -- The rows of every sheet that is reached lie as they should, on its branch and on those that its pending rows take up.
 use Rattle.std.proofs.Common.{◌≡◌, ℕ, ◌+◌, ◌-◌, ◌<◌, true, false, cond, ◌&&◌, ltb, leb, List, [], ◌∷◌, reverse, length, take, Some, None, Ok, Err, Option, Result, sym, refl, ap, ◌∙◌, subst, ⊎_elim, arith}
 use Rattle.std.proofs.lemmas.Bool.{and_parts, cases_Bool, cond-false, cond-true}
-use Rattle.std.specs.List.{AllByRecursion}
+use Rattle.std.specs.List.{AllByRecursion, list_all}
 use Rattle.kb.specs.declared.axioms.Assertion.{Assertion}
 use Rattle.kb.specs.declared.axioms.Assertion.TheVariants.{Is, Joins}
 use Rattle.kb.specs.declared.names.Concept.{Concept}
@@ -21,7 +21,7 @@ use Rattle.calculus.specs.Branches.{Branch, held}
 use Rattle.calculus.specs.Holding.{Held}
 use Rattle.calculus.specs.Playing.{Played, Written, accepted, close, cut_to, extend, free, individuals_after, last_of, left, note, noteable, opened, perform, play, ready, write, write_missing}
 use Rattle.calculus.specs.Runs.{Run, start, step}
-use Rattle.calculus.specs.States.{Ledgers, State, branch, branch_of, every, fits}
+use Rattle.calculus.specs.States.{Ledgers, State, branch, branch_of, fits}
 use Rattle.calculus.specs.Table.{Rule, and_then, rule}
 use Rattle.calculus.proofs.Accepting.{Err_not_Ok, Ok_injective, and_then_Ok, cond_Ok}
 use Rattle.theorem.proofs.Growing.{cut-grown, cut-noted, Grown, grown-with_side, last_of_Some, noted, push-rows, reopened, reopened-grown, reverse-push, Within, within-noted, with_side, write_missing-grown, write_missing_keeps, write_missing-side}
@@ -33,10 +33,10 @@ use Rattle.theorem.proofs.SheetFits.{all_within, rows_fit_lem}
 use Rattle.theorem.specs.Placed.{OfBranch, Placed}
 
 -- facts that are held are not written
-pub write_missing-held : (m : Meaning) (n : ℕ) (facts : List Assertion) (w : Written) → every (held m (branch_of w.ledgers n)) facts ≡ true → write_missing m n facts w ≡ Ok w
+pub write_missing-held : (m : Meaning) (n : ℕ) (facts : List Assertion) (w : Written) → list_all (held m (branch_of w.ledgers n)) facts ≡ true → write_missing m n facts w ≡ Ok w
 write_missing-held m n [] w h = refl
 write_missing-held m n (a ∷ facts) w h =
-    let p = and_parts (held m (branch_of w.ledgers n) a) (every (held m (branch_of w.ledgers n)) facts) h in
+    let p = and_parts (held m (branch_of w.ledgers n) a) (list_all (held m (branch_of w.ledgers n)) facts) h in
     cond-true (held m (branch_of w.ledgers n) a) (write_missing m n facts w) _ p.0 ∙ write_missing-held m n facts w p.1
 
 module _ (m : Meaning) where
@@ -203,7 +203,7 @@ module _ (m : Meaning) where
             let v = and_then_Ok (rule m s.numbers.individuals t) (perform m s) p u.2 in
             let r = v.0 in
             let does = cond r.closes (close m s (last_of s.ledgers.pending.rows)) (extend m s r) in
-            let q = cond_Ok (every (held m (branch s)) r.needs) (cond (ltb s.numbers.steps 1000000) does (Err Full)) Premise p v.2 in
+            let q = cond_Ok (list_all (held m (branch s)) r.needs) (cond (ltb s.numbers.steps 1000000) does (Err Full)) Premise p v.2 in
             let d = cond_Ok (ltb s.numbers.steps 1000000) does Full p q.1 in
             extend-placed s good.0 k r (table-placed m range (branch s) k.now t r v.1 q.0) p d.1
 

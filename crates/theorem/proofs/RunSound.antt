@@ -2,7 +2,7 @@
 -- rows take up, one is satisfiable.
 use Rattle.std.proofs.Common.{◌≡◌, ℕ, ◌-◌, ◌≤◌, Bool, true, false, cond, ◌&&◌, ltb, leb, ◌⊎◌, List, [], ◌∷◌, ◌++◌, reverse, length, take, Some, None, Ok, Err, Option, Result, sym, refl, ap, ◌∙◌, subst, inl, inr, ⊎_elim, arith}
 use Rattle.std.proofs.lemmas.Bool.{and_parts, both_ways, cond_both, cond-true}
-use Rattle.std.specs.List.{AllByRecursion}
+use Rattle.std.specs.List.{AllByRecursion, list_all}
 use Rattle.kb.proofs.CheckLaws.{checked_means}
 use Rattle.kb.specs.declared.axioms.Assertion.TheVariants.{Is}
 use Rattle.kb.specs.declared.fault.BaseFault.TheVariants.{Size}
@@ -17,7 +17,7 @@ use Rattle.calculus.specs.declared.step.Step.{Step}
 use Rattle.calculus.specs.Branches.{Branch, held}
 use Rattle.calculus.specs.Playing.{Played, Written, accepted, close, cut_to, extend, free, individuals_after, last_of, left, note, noteable, opened, perform, play, ready, write_missing}
 use Rattle.calculus.specs.Runs.{Run, lengths_accepted, opening, start, step}
-use Rattle.calculus.specs.States.{Ledgers, State, branch, branch_of, every, fits, rows_fit, sizes_of}
+use Rattle.calculus.specs.States.{Ledgers, State, branch, branch_of, fits, rows_fit, sizes_of}
 use Rattle.calculus.specs.Table.{Rule, and_then, rule}
 use Rattle.calculus.proofs.Accepting.{Ok_injective, and_then_Ok, cond_Ok}
 use Rattle.theorem.proofs.Growing.{cut-grown, cut-noted, cut_branch, Grown, grown-with_side, last_of_None, last_of_Some, noted, push-rows, reopened, reopened-grown, reverse-push, Within, within-noted, with_side, write_missing-grown, write_missing-side}
@@ -208,11 +208,11 @@ module _ (I : Interpretation) (m : Meaning) where
       perform_invariant : (t : Step) (r : Rule) → rule m n t ≡ Ok r → (p : Played) → perform m s r ≡ Ok p → Invariant p.state
       perform_invariant t r is-rule p e =
           let ends = close m s (last_of l.pending.rows) in
-          let q = cond_Ok (every (held m (branch s)) r.needs) (cond (ltb s.numbers.steps 1000000) (cond r.closes ends (extend m s r)) (Err Full)) Premise p e in
+          let q = cond_Ok (list_all (held m (branch s)) r.needs) (cond (ltb s.numbers.steps 1000000) (cond r.closes ends (extend m s r)) (Err Full)) Premise p e in
           let u = cond_Ok (ltb s.numbers.steps 1000000) (cond r.closes ends (extend m s r)) Full p q.1 in
           by-closing r.closes (λ at f. follows q.0 at f) u.1
         where
-          follows : every (held m (branch s)) r.needs ≡ true → (at : ℕ → List ℕ) → Satisfied (branch s) at → Follows I n at r.closes r
+          follows : list_all (held m (branch s)) r.needs ≡ true → (at : ℕ → List ℕ) → Satisfied (branch s) at → Follows I n at r.closes r
           follows needs at f =
               table_sound I m range lawful satisfies n at f.assigns t r is-rule
               (needs_true I at m (branch s) f.rows (λ x. lawful.top (at x) (f.assigns.elements x)) r.needs needs)

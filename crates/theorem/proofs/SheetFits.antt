@@ -1,7 +1,7 @@
 -- The rows of a sheet that fits its base name individuals of the sheet, and its pending rows note no more than there is.
 use Rattle.std.proofs.Common.{◌≡◌, ℕ, true, ◌&&◌, leb, List, reverse, length, sym, ◌∙◌}
 use Rattle.std.proofs.lemmas.Bool.{and_parts, leb-true, ltb-true}
-use Rattle.std.specs.List.{AllByRecursion}
+use Rattle.std.specs.List.{AllByRecursion, list_all}
 use Rattle.kb.specs.declared.counts.Counts.{Counts}
 use Rattle.kb.specs.Interpretations.{Interpretation}
 use Rattle.kb.specs.Meanings.{Meaning, counts_of}
@@ -11,7 +11,7 @@ use Rattle.calculus.specs.declared.row_kinds.PairRow.{PairRow}
 use Rattle.calculus.specs.declared.row_kinds.PairRow.TheVariants.{Same as SameRow, Different as DifferentRow}
 use Rattle.calculus.specs.declared.row_kinds.PendingRow.{PendingRow}
 use Rattle.calculus.specs.declared.row_kinds.RoleRow.{RoleRow}
-use Rattle.calculus.specs.States.{Ledgers, State, branch_of, concept_row_fits, every, fits, pair_row_fits, pending_row_fits, role_row_fits, row_counts, rows_fit, same_counts, same_lengths, sizes_of}
+use Rattle.calculus.specs.States.{Ledgers, State, branch_of, concept_row_fits, fits, pair_row_fits, pending_row_fits, role_row_fits, row_counts, rows_fit, same_counts, same_lengths, sizes_of}
 use Rattle.calculus.specs.Table.{below}
 use Rattle.theorem.proofs.Growing.{Within, all_reverse}
 use Rattle.theorem.proofs.TableSound.{Agree}
@@ -25,25 +25,25 @@ rows_fit_lem m s e =
     (and_parts (same_lengths (row_counts s.ledgers) s.numbers.rows) _ q.1).1
 
 module _ (base : Counts) (n : ℕ) (l : Ledgers) where
-  concepts-fit : rows_fit base n l ≡ true → every (concept_row_fits base n) l.concepts.rows ≡ true
-  concepts-fit e = (and_parts (every (concept_row_fits base n) l.concepts.rows) _ e).0
+  concepts-fit : rows_fit base n l ≡ true → list_all (concept_row_fits base n) l.concepts.rows ≡ true
+  concepts-fit e = (and_parts (list_all (concept_row_fits base n) l.concepts.rows) _ e).0
 
-  roles-fit : rows_fit base n l ≡ true → every (role_row_fits base n) l.roles.rows ≡ true
+  roles-fit : rows_fit base n l ≡ true → list_all (role_row_fits base n) l.roles.rows ≡ true
   roles-fit e =
-      let p = and_parts (every (concept_row_fits base n) l.concepts.rows) _ e in
-      (and_parts (every (role_row_fits base n) l.roles.rows) _ p.1).0
+      let p = and_parts (list_all (concept_row_fits base n) l.concepts.rows) _ e in
+      (and_parts (list_all (role_row_fits base n) l.roles.rows) _ p.1).0
 
-  pairs-fit : rows_fit base n l ≡ true → every (pair_row_fits base n) l.pairs.rows ≡ true
+  pairs-fit : rows_fit base n l ≡ true → list_all (pair_row_fits base n) l.pairs.rows ≡ true
   pairs-fit e =
-      let p = and_parts (every (concept_row_fits base n) l.concepts.rows) _ e in
-      let q = and_parts (every (role_row_fits base n) l.roles.rows) _ p.1 in
-      (and_parts (every (pair_row_fits base n) l.pairs.rows) _ q.1).0
+      let p = and_parts (list_all (concept_row_fits base n) l.concepts.rows) _ e in
+      let q = and_parts (list_all (role_row_fits base n) l.roles.rows) _ p.1 in
+      (and_parts (list_all (pair_row_fits base n) l.pairs.rows) _ q.1).0
 
-  pending-fit : rows_fit base n l ≡ true → every (pending_row_fits base n (row_counts l)) l.pending.rows ≡ true
+  pending-fit : rows_fit base n l ≡ true → list_all (pending_row_fits base n (row_counts l)) l.pending.rows ≡ true
   pending-fit e =
-      let p = and_parts (every (concept_row_fits base n) l.concepts.rows) _ e in
-      let q = and_parts (every (role_row_fits base n) l.roles.rows) _ p.1 in
-      (and_parts (every (pair_row_fits base n) l.pairs.rows) _ q.1).1
+      let p = and_parts (list_all (concept_row_fits base n) l.concepts.rows) _ e in
+      let q = and_parts (list_all (role_row_fits base n) l.roles.rows) _ p.1 in
+      (and_parts (list_all (pair_row_fits base n) l.pairs.rows) _ q.1).1
 
   pending-within : (k : ℕ) (p : PendingRow) → pending_row_fits base n (row_counts l) p ≡ true → Within (branch_of l k) p
   pending-within k p e =

@@ -1,7 +1,7 @@
 -- Assignments of elements to individuals: what is held on a branch is true where its rows are true.
 use Rattle.std.proofs.Common.{◌≡◌, ℕ, min, Bool, true, false, ◌&&◌, ◌||◌, eqb, List, [], ◌∷◌, sym, refl, ap, ◌∙◌, ⊎_elim, arith}
 use Rattle.std.proofs.lemmas.Bool.{and_parts, both_ways, cases_lt, cond_both, eqb-true, or_cases}
-use Rattle.std.specs.List.{AllByRecursion}
+use Rattle.std.specs.List.{AllByRecursion, list_all, list_any}
 use Rattle.kb.specs.declared.axioms.Assertion.{Assertion}
 use Rattle.kb.specs.declared.axioms.Assertion.TheVariants.{Is, Joins, Same, Different, Unlisted}
 use Rattle.kb.specs.declared.names.Concept.{Concept}
@@ -13,26 +13,25 @@ use Rattle.calculus.specs.declared.row_kinds.ConceptRow.{ConceptRow}
 use Rattle.calculus.specs.declared.row_kinds.PairRow.{PairRow}
 use Rattle.calculus.specs.declared.row_kinds.PairRow.TheVariants.{Same as SameRow, Different as DifferentRow}
 use Rattle.calculus.specs.declared.row_kinds.RoleRow.{RoleRow}
-use Rattle.calculus.specs.Branches.{Branch, any, concept_row_holds, equal, head_of, heads_from, held, join_heads, merged, pair_row_holds, role_row_holds}
-use Rattle.calculus.specs.States.{every}
+use Rattle.calculus.specs.Branches.{Branch, concept_row_holds, equal, head_of, heads_from, held, join_heads, merged, pair_row_holds, role_row_holds}
 
 -- where each item is P, and a test passes at some item
-pub any_all : {A Q : Type 0} (P : A → Type 0) (test : A → Bool) (xs : List A) → AllByRecursion P xs → any test xs ≡ true → ((x : A) → test x ≡ true → P x → Q) → Q
+pub any_all : {A Q : Type 0} (P : A → Type 0) (test : A → Bool) (xs : List A) → AllByRecursion P xs → list_any test xs ≡ true → ((x : A) → test x ≡ true → P x → Q) → Q
 any_all P test [] a e k = absurd (both_ways false refl e)
 any_all P test (x ∷ xs) a e k =
-    ⊎_elim (λ t. k x t a.0) (λ t. any_all P test xs a.1 t k) (or_cases (test x) (any test xs) e)
+    ⊎_elim (λ t. k x t a.0) (λ t. any_all P test xs a.1 t k) (or_cases (test x) (list_any test xs) e)
 
 -- where each item is P, and a test passes at every item
-pub every_all : {A : Type 0} (P Q : A → Type 0) (test : A → Bool) (xs : List A) → every test xs ≡ true → ((x : A) → test x ≡ true → P x → Q x) → AllByRecursion P xs → AllByRecursion Q xs
+pub every_all : {A : Type 0} (P Q : A → Type 0) (test : A → Bool) (xs : List A) → list_all test xs ≡ true → ((x : A) → test x ≡ true → P x → Q x) → AllByRecursion P xs → AllByRecursion Q xs
 every_all P Q test [] e k a = tt
 every_all P Q test (x ∷ xs) e k a =
-    let p = and_parts (test x) (every test xs) e in
+    let p = and_parts (test x) (list_all test xs) e in
     (k x p.0 a.0, every_all P Q test xs p.1 k a.1)
 
-pub every-passes : {A : Type 0} (Q : A → Type 0) (test : A → Bool) (xs : List A) → every test xs ≡ true → ((x : A) → test x ≡ true → Q x) → AllByRecursion Q xs
+pub every-passes : {A : Type 0} (Q : A → Type 0) (test : A → Bool) (xs : List A) → list_all test xs ≡ true → ((x : A) → test x ≡ true → Q x) → AllByRecursion Q xs
 every-passes Q test [] e k = tt
 every-passes Q test (x ∷ xs) e k =
-    let p = and_parts (test x) (every test xs) e in
+    let p = and_parts (test x) (list_all test xs) e in
     (k x p.0, every-passes Q test xs p.1 k)
 
 -- what `merged` gives has the same element, where u and v have one
@@ -123,7 +122,7 @@ module _ (I : Interpretation) (at : ℕ → List ℕ) where
         ⊎_elim
         (λ z. let q : c ≡ record { 0 = 0 } = λ i. record { 0 = eqb-true c.0 0 z i } in rw q (top x.0))
         (λ t. any_all ConceptTrue (concept_row_holds m b c x) b.concepts rows.concepts t (concept_row_true c x))
-        (or_cases (eqb c.0 0) (any (concept_row_holds m b c x) b.concepts) e)
+        (or_cases (eqb c.0 0) (list_any (concept_row_holds m b c x) b.concepts) e)
     held_true top (Joins r x y) e =
         any_all RoleTrue (role_row_holds m b r x y) b.roles rows.roles e (role_row_true r x y)
     held_true top (Same x y) e = equal-at b.pairs rows.pairs x y e
@@ -131,5 +130,5 @@ module _ (I : Interpretation) (at : ℕ → List ℕ) where
         any_all PairTrue (pair_row_holds m b x y) b.pairs rows.pairs e (pair_row_true x y)
     held_true top (Unlisted kind) e = absurd (both_ways false refl e)
 
-    pub needs_true : ((x : ℕ) → In I (record { 0 = 0 }) (at x)) → (facts : List Assertion) → every (held m b) facts ≡ true → AllByRecursion True facts
+    pub needs_true : ((x : ℕ) → In I (record { 0 = 0 }) (at x)) → (facts : List Assertion) → list_all (held m b) facts ≡ true → AllByRecursion True facts
     needs_true top facts e = every-passes True (held m b) facts e (held_true top)

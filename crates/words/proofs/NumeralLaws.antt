@@ -1,20 +1,16 @@
 -- Reading a number is the inverse of writing one.
-use Rattle.std.proofs.Common.{◌≡◌, ℕ, suc, ◌+◌, ◌<◌, ◌≤◌, Bool, true, false, ◌&&◌, leb, List, [], ◌∷◌, ◌++◌, length, get_or, take, drop, IfOk, Ok, Err, decimal, Result, sym, refl, ap, ◌∙◌, subst, ⊎_elim, add-one, arith, length-drop, take-append-drop, rules}
+use Rattle.std.proofs.Common.{◌≡◌, ℕ, suc, ◌+◌, ◌<◌, ◌≤◌, Bool, true, false, ◌&&◌, leb, List, [], ◌∷◌, ◌++◌, length, get_or, take, drop, IfOk, Ok, Err, decimal, Result, sym, refl, ap, ◌∙◌, subst, ⊎_elim, add-one, arith, length-drop, take-append-drop}
 use Rattle.std.specs.Char.{is_ascii_digit}
 use Rattle.std.specs.Str.{all_ascii_digits}
 use Rattle.std.proofs.lemmas.Fmt.{decimal_digit, decimal_nonempty, decimal-digits_value, digits_decimal, first_decimal, digits_value-decimal}
 use Rattle.std.proofs.lemmas.List.{at_drop_all, length-take-le, take_at}
-use Rattle.std.proofs.lemmas.Str.Parse.{IsNumeralModel, numerals_by_fold}
 use Rattle.std.proofs.lemmas.Bool.{and_parts, both_ways, cases_lt, cond_both, le-leb, leb-true, ne_eqb, not_from_false, not-true, eqb-false}
 use Rattle.words.specs.declared.fault.ReadFault.{ReadFault}
 use Rattle.words.specs.declared.fault.ReadFault.TheVariants.{Unreadable}
 use Rattle.words.specs.declared.read.FrontNumber.{FrontNumber}
 use Rattle.words.specs.Fronts.{NumberRead, front_number, sized}
 use Rattle.words.specs.Numerals.{digit_count, number_of, plain, value_after}
-
--- digits and what they write, as the shelf's lemmas take them
-own : IsNumeralModel (λ ds. all_ascii_digits ds ≡ true) (value_after 0)
-own = numerals_by_fold _ (search rules) value_after (search rules)
+use Rattle.words.proofs.DigitLaws.{own}
 
 -- no leading zero
 plain-from : (ds : List ℕ) → 0 < length ds → (get_or ds 0 0 ≡ 48 → length ds ≡ 1) → plain ds ≡ true

@@ -1,11 +1,10 @@
 -- Which word stands at a place, by how many digits stand there.
-use Rattle.std.proofs.Common.{◌≡◌, ℕ, ◌+◌, ◌-◌, ◌<◌, ◌≤◌, Bool, true, false, List, [], ◌∷◌, length, take, drop, IfOk, Ok, Err, Result, sym, refl, ap, ◌∙◌, ⊎_elim, arith, length-drop}
+use Rattle.std.proofs.Common.{◌≡◌, ℕ, ◌+◌, ◌-◌, ◌<◌, ◌≤◌, Bool, true, false, List, [], ◌∷◌, length, take, drop, Ok, Err, sym, refl, ap, ◌∙◌, arith, length-drop}
 use Rattle.std.specs.Char.{is_ascii_digit}
 use Rattle.std.proofs.lemmas.List.{at_drop_all, length-take-le, take_rest}
-use Rattle.std.proofs.lemmas.Bool.{cases_lt}
 use Rattle.words.specs.declared.fault.ReadFault.{ReadFault}
 use Rattle.words.specs.declared.fault.ReadFault.TheVariants.{Unreadable}
-use Rattle.words.specs.Fronts.{front_letter, front_number, sized}
+use Rattle.words.specs.Fronts.{front_number, sized}
 use Rattle.words.specs.Numerals.{digit_count, number_of}
 use Rattle.words.specs.Words.{SeenWord, letter_word, number_in, number_word, size_of, word_from, word_at}
 use Rattle.words.proofs.NumeralLaws.{count-within}
@@ -74,11 +73,3 @@ number_no_word (b ∷ bs) at f e = by (is_ascii_digit b) refl
     by false q =
         let is : word_from (b ∷ bs) at ≡ Ok (letter_word (b ∷ []) at) = rw q in
         let z : ◌≡◌ {A = ℕ} 0 1 = cc in absurd (omega arith)
-
--- a letter stands within its text
-pub letter-within : (text : List ℕ) (at : ℕ) (r : Result ℕ ReadFault) → r ≡ front_letter (drop at text) → IfOk r (λ _. at < length text)
-letter-within text at (Ok b) e =
-    ⊎_elim (λ l. l)
-    (λ l. let z : Ok b ≡ Err Unreadable = e ∙ at_drop_all front_letter text at l in let q : ◌≡◌ {A = ℕ} 0 1 = cc in absurd (omega arith))
-    (cases_lt at (length text))
-letter-within text at (Err f) e = tt

@@ -1,4 +1,5 @@
-// Reading the word at a place of a text.
+// Reading the word at a place of a text. A text and a place are asked for, and not the rest of the text: a word tells its place,
+// and a place may lie behind the text.
 ghost use Rattle.std.specs.Prelude.{◌≡◌, ◌+◌, ◌<◌, ◌≤◌, length, drop, IfOk, OnOk};
 ghost use Rattle.std.specs.Result.{result_map_both};
 ghost use Rattle.words.specs.Fronts.{NumberRead, front_letter, front_number};
@@ -19,12 +20,12 @@ pub fn word_at<'t>(text: &'t [u8], at: usize) -> Result<Word<'t>, ReadFault>
     let count = digit_count(rest);
     if count == 0 {
         Ok(Word::Letter(Part {
-            bytes: &rest[0..1],
+            bytes: &rest[..1],
             place: at,
         }))
     } else {
         Ok(Word::Number(Part {
-            bytes: &rest[0..count],
+            bytes: &rest[..count],
             place: at,
         }))
     }
@@ -39,7 +40,7 @@ pub fn letter_at(text: &[u8], at: usize) -> Result<char, ReadFault>
 }
 
 /// A number at the front of a text, and how many digits it has.
-#[derive(Clone, Copy)]
+#[derive(Clone, Copy, Debug, PartialEq, Eq)]
 pub struct FrontNumber {
     pub value: u16,
     pub size: usize,

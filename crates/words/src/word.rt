@@ -6,14 +6,14 @@ use crate::digits::number_of;
 use crate::fault::ReadFault;
 
 /// A part of a text, and its place: how many bytes of the text stand before it.
-#[derive(Clone, Copy)]
+#[derive(Clone, Copy, Debug, PartialEq, Eq)]
 pub struct Part<'t> {
     pub bytes: &'t [u8],
     pub place: usize,
 }
 
 /// A word of a text.
-#[derive(Clone, Copy)]
+#[derive(Clone, Copy, Debug, PartialEq, Eq)]
 pub enum Word<'t> {
     /// One byte that is no digit.
     Letter(Part<'t>),
@@ -27,11 +27,8 @@ impl Word<'_> {
         ensures { result ≡ letter_in (seen self.now) }
     {
         match *self {
-            Word::Letter(part) => match part.bytes {
-                [b] => Ok(*b as char),
-                _ => Err(ReadFault::Unreadable),
-            },
-            Word::Number(_) => Err(ReadFault::Unreadable),
+            Word::Letter(Part { bytes: [b], .. }) => Ok(char::from(*b)),
+            _ => Err(ReadFault::Unreadable),
         }
     }
 
@@ -50,8 +47,7 @@ impl Word<'_> {
         ensures { result ≡ size_of (seen self.now) }
     {
         match *self {
-            Word::Letter(part) => part.bytes.len(),
-            Word::Number(part) => part.bytes.len(),
+            Word::Letter(part) | Word::Number(part) => part.bytes.len(),
         }
     }
 }

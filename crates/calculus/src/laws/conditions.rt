@@ -3,6 +3,7 @@ ghost use Rattle.calculus.specs.Blocking.{BlockerStands};
 ghost use Rattle.calculus.specs.Conditions.{ReviewedExactly};
 
 /// A blocker is new, comes before what it blocks, is the least that covers it, and is not blocked.
+#[tactic(auto, using(crate::proofs::BlockingLaws::blocker_stands))]
 pub fn blocker_stands()
     ensures { BlockerStands }
 {}

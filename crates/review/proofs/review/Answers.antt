@@ -1,11 +1,9 @@
 -- Each way out is the calculus' review.
-use Rattle.std.proofs.Common.{◌≡◌, length, take, ◌-◌, ap, ◌∙◌, arith}
+use Rattle.std.proofs.Common.{◌≡◌, length, take, ◌-◌, arith}
 use Rattle.std.proofs.lemmas.List.{length-take}
-use Rattle.calculus.specs.Review.{found, lowest_failing}
-use Rattle.calculus.specs.States.{branch_of}
 use Rattle.ledgers.specs.Contents.{ledgers_of}
 use Rattle.sheet.specs.States.{state_of}
-use Rattle.review.proofs.ReviewLaws.{reviewed-changed, reviewed-closed, reviewed-found, reviewed-full}
+use Rattle.review.proofs.ReviewLaws.{reviewed-changed, reviewed-closed, reviewed-found}
 use Rattle.review.proofs.review.Goals as goal
 
 pub returns-then-not-fits : goal.returns-then-not-fits
@@ -13,12 +11,6 @@ returns-then-not-fits g c =
     reviewed-changed (g.B.Base.meaning c.args.base.now) (length c.args.scratch.now)
     (state_of c.args.sheet.now (ledgers_of c.args.ledgers.now))
     c.if-not-fits.ensures
-
-pub returns-then-scratch-lt1024 : goal.returns-then-scratch-lt1024
-returns-then-scratch-lt1024 g c =
-    reviewed-full (g.B.Base.meaning c.args.base.now) (length c.args.scratch.now)
-    (state_of c.args.sheet.now (ledgers_of c.args.ledgers.now))
-    c.if-not-fits.ensures c.if-scratch-lt1024.true
 
 pub returns-then-is_closed : goal.returns-then-is_closed
 returns-then-is_closed g c =
@@ -33,5 +25,5 @@ returns g c =
     let all : length (take (c.from-individuals.result - 0) c.args.scratch.now) ≡ c.args.sheet.now.individuals =
     simp length-take (omega arith) in
     reviewed-found m (length c.args.scratch.now) (state_of c.args.sheet.now l) c.find.result
-    c.if-not-fits.ensures c.if-scratch-lt1024.false c.if-is_closed.ensures
-    (c.find.ensures ∙ ap (λ n. found (lowest_failing m (branch_of l n))) all)
+    (length (take (c.from-individuals.result - 0) c.args.scratch.now))
+    c.if-not-fits.ensures c.if-scratch-lt1024.false c.if-is_closed.ensures all c.args.sheet.now.few c.find.ensures

@@ -1,15 +1,12 @@
-use Rattle.std.proofs.Common.{Ok, sym, ap, ◌∙◌}
-use Rattle.rows.proofs.RowLaws.{row_at-inside, row_at-beyond, answers_means}
+use Rattle.std.proofs.Common.{ap, ◌∙◌}
+use Rattle.std.specs.Option.{ok_or}
+use Rattle.rows.specs.declared.fault.RowFault.TheVariants.{NoSuchRow}
+use Rattle.rows.proofs.RowLaws.{row_at-lent, answers_means}
 use Rattle.rows.proofs.row.Goals as goal
 
-pub returns-then-n-rows : goal.returns-then-n-rows
-returns-then-n-rows g c =
+pub returns : goal.returns
+returns g c =
     let xs = c.args.rows.now in
-    let e = ap Ok c.index-rows-n.is ∙ sym (row_at-inside xs c.args.n c.index-rows-n.result c.if-n-rows.true) in
-    record { value = e; means = answers_means xs c.args.n _ e }
-
-pub returns-else-n-rows : goal.returns-else-n-rows
-returns-else-n-rows g c =
-    let xs = c.args.rows.now in
-    let e = sym (row_at-beyond xs c.args.n c.if-n-rows.false) in
+    let lent = row_at-lent xs c.args.n c.get.result c.get.ensures.lookup in
+    let e = c.ok_or.ensures.value ∙ ap (λ o. ok_or o NoSuchRow) c.copied.ensures ∙ lent in
     record { value = e; means = answers_means xs c.args.n _ e }

@@ -1,5 +1,4 @@
-use Rattle.std.proofs.Common.{ap, ◌∙◌, arith}
-use Rattle.kb.specs.declared.counts.Counts.{Counts}
+use Rattle.std.proofs.Common.{ℕ, List, length, ap, ◌∙◌, arith}
 use Rattle.kb.specs.declared.fault.RowList.TheVariants.{Entries, Assertions, Inclusions, Keys}
 use Rattle.kb.specs.Meanings.{counts_of}
 use Rattle.casewriter.specs.Encoding.{bytes_of, header_numbers, section_numbers}
@@ -8,30 +7,26 @@ use Rattle.casewriter.proofs.Overwriting.{Holds, holds-behind}
 use Rattle.casewriter.proofs.SectionLaws.{length-parts}
 use Rattle.casewriter.proofs.sections.put_case.Goals as goal
 
-pub put_section-assertions_at-requires : goal.put_section-assertions_at-requires
-put_section-assertions_at-requires g c =
-    record { counts_value = c.requires.counts_value; list_in_bounds = omega (arith, length-parts (g.B.Base.meaning c.args.base.now)) }
-
 pub put_section-inclusions_at-requires : goal.put_section-inclusions_at-requires
 put_section-inclusions_at-requires g c =
-    record { counts_value = c.requires.counts_value; list_in_bounds = omega (arith, length-parts (g.B.Base.meaning c.args.base.now)) }
+    omega (arith, length-parts (g.B.Base.meaning c.args.base.now), ap (λ (ns : List ℕ). length (bytes_of ns)) c.from.ensures)
 
 pub put_section-keys_at-requires : goal.put_section-keys_at-requires
 put_section-keys_at-requires g c =
-    record { counts_value = c.requires.counts_value; list_in_bounds = omega (arith, length-parts (g.B.Base.meaning c.args.base.now)) }
+    omega (arith, length-parts (g.B.Base.meaning c.args.base.now), ap (λ (ns : List ℕ). length (bytes_of ns)) c.from.ensures)
 
 pub put_section-requires : goal.put_section-requires
 put_section-requires g c =
-    record { counts_value = c.requires.counts_value; list_in_bounds = omega (arith, length-parts (g.B.Base.meaning c.args.base.now)) }
+    omega (arith, length-parts (g.B.Base.meaning c.args.base.now), ap (λ (ns : List ℕ). length (bytes_of ns)) c.from.ensures)
 
 pub returns : goal.returns
 returns g c =
     let m = g.B.Base.meaning c.args.base.now in
     let before = c.args.buffer.now in
-    let header : Holds before (header_numbers (counts_of m)) c.put_header-entries_at.result c.put_header-entries_at.new.out =
+    let header : Holds before (header_numbers (counts_of m)) c.put_all-entries_at.result c.put_all-entries_at.new.out =
     record {
-      size = c.put_header-entries_at.ensures.size;
-      bytes = c.put_header-entries_at.ensures.bytes ∙ ap (λ (n : Counts). over (bytes_of (header_numbers n)) before) c.requires.counts_value;
+      size = c.put_all-entries_at.ensures.size ∙ ap (λ (ns : List ℕ). length (bytes_of ns)) (c.from.ensures ∙ ap header_numbers c.counts.ensures);
+      bytes = c.put_all-entries_at.ensures.bytes ∙ ap (λ (ns : List ℕ). over (bytes_of ns) before) (c.from.ensures ∙ ap header_numbers c.counts.ensures);
     } in
     let entries = holds-behind (section_numbers m Entries) _ _ header c.put_section-assertions_at.ensures.end c.put_section-assertions_at.ensures.bytes in
     let assertions = holds-behind (section_numbers m Assertions) _ _ entries c.put_section-inclusions_at.ensures.end c.put_section-inclusions_at.ensures.bytes in

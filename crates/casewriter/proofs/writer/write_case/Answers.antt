@@ -1,26 +1,15 @@
-use Rattle.std.proofs.Common.{ℕ, ◌<◌, ◌≤◌, length, Ok, Err, Result, sym, ap, ◌∙◌, subst, arith}
-use Rattle.std.proofs.lemmas.Result.{err_from_is_err_and}
-use Rattle.casewriter.specs.declared.fault.WriteFault.{WriteFault}
+use Rattle.std.proofs.Common.{ℕ, ◌<◌, ◌≤◌, length, Ok, sym, subst, arith}
 use Rattle.casewriter.specs.Encoding.{case_bytes}
 use Rattle.casewriter.proofs.RoundTrip.{size_is}
-use Rattle.casewriter.proofs.WriteLaws.{Answered, refused, short, wrote}
+use Rattle.casewriter.proofs.WriteLaws.{Answered, short, wrote}
 use Rattle.casewriter.proofs.writer.write_case.Goals as goal
-
-pub returns-in_err-counts : goal.returns-in_err-counts
-returns-in_err-counts g c =
-    let m = g.B.Base.meaning c.args.base.now in
-    let before = c.args.buffer.now in
-    let p = err_from_is_err_and c.from_residual.result c.from_residual.ensures.1 in
-    let r = refused m before c.in_err-counts.field-0.0 (sym c.in_err-counts.ensures.value) in
-    let a = subst (λ (x : Result ℕ WriteFault). Answered m before x before) (sym (p.1 ∙ ap Err p.2)) r in
-    record { value = a.value; bytes = a.bytes; means = a.means }
 
 pub put_case-requires : goal.put_case-requires
 put_case-requires g c =
     let m = g.B.Base.meaning c.args.base.now in
     let n = c.in_ok-counts.counts in
     let e = (c.check_base.ensures.means.accepts n c.in_ok-counts.was).0 in
-    record { counts_value = e; base_in_bounds = omega (arith, size_is m n c.case_size.result e c.case_size.ensures) }
+    omega (arith, size_is m n c.case_size.result e c.case_size.ensures)
 
 pub returns-then-case_size-buffer : goal.returns-then-case_size-buffer
 returns-then-case_size-buffer g c =

@@ -1,14 +1,13 @@
--- A turn passes a number at which nothing is found, or ends with what is found there.
-use Rattle.std.proofs.Common.{ap}
+use Rattle.std.proofs.Common.{rules, refl, ap}
+use Rattle.rows.specs.Rows.{row_at}
 use Rattle.kb.specs.declared.counts.Counts.{Counts}
-use Rattle.conditions.proofs.FirstLaws.{found_all, found_here, found-more}
+use Rattle.failures.specs.Failures.{at_row, first_of_inclusion}
+use Rattle.lookup.specs.Views.{branch_in}
+use Rattle.conditions.proofs.FirstLaws.{first_under-find_map}
 use Rattle.conditions.proofs.axioms.first_inclusion.Goals as goal
 
-pub returns-in-Some : goal.returns-in-Some
-returns-in-Some g c = found_here (ap (λ (n : Counts). n.inclusions) c.counts-n-end.ensures) c.loop-n.invariant c.loop-n-test.true c.in-Some.ensures
-
-pub loop-n-preserved : goal.loop-n-preserved
-loop-n-preserved g c = found-more c.loop-n.invariant c.in_default.ensures
-
 pub returns : goal.returns
-returns g c = found_all (ap (λ (n : Counts). n.inclusions) c.counts-n-end.ensures) c.loop-n.invariant c.loop-n-test.false c.loop-n.auto.n-end
+returns g c =
+    let m = g.B.Base.meaning c.args.view.now.base.now in
+    let b = branch_in c.args.view.now in
+    first_under-find_map (λ n. at_row (first_of_inclusion m b n) (row_at m.inclusions n)) c.find_map.ensures.runs refl (ap (λ (n : Counts). n.inclusions) c.counts.ensures) (λ n r q k. search rules)

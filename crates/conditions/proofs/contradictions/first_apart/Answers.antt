@@ -1,12 +1,11 @@
--- A turn passes a number at which nothing is found, or ends with what is found there.
-use Rattle.conditions.proofs.FirstLaws.{found_all, found_here, found-more}
+use Rattle.std.proofs.Common.{rules, refl}
+use Rattle.failures.specs.Failures.{apart_at, first_on_sheet}
+use Rattle.lookup.specs.Views.{branch_in}
+use Rattle.conditions.proofs.FirstLaws.{first_under-find_map}
 use Rattle.conditions.proofs.contradictions.first_apart.Goals as goal
 
-pub returns-in-Some : goal.returns-in-Some
-returns-in-Some g c = found_here c.individuals-x-end.ensures c.loop-x.invariant c.loop-x-test.true c.in-Some.ensures
-
-pub loop-x-preserved : goal.loop-x-preserved
-loop-x-preserved g c = found-more c.loop-x.invariant c.in_default.ensures
-
 pub returns : goal.returns
-returns g c = found_all c.individuals-x-end.ensures c.loop-x.invariant c.loop-x-test.false c.loop-x.auto.x-end
+returns g c =
+    let m = g.B.Base.meaning c.args.view.now.base.now in
+    let b = branch_in c.args.view.now in
+    first_under-find_map (λ x. first_on_sheet m b (apart_at m b x)) c.find_map.ensures.runs refl (c.individuals.ensures) (λ x r q k. search rules)

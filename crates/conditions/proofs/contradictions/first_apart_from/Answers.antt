@@ -1,12 +1,11 @@
--- A turn passes a number at which nothing is found, or ends with what is found there.
-use Rattle.conditions.proofs.FirstLaws.{found_all, found_here, found-more}
+use Rattle.std.proofs.Common.{rules, refl}
+use Rattle.failures.specs.Failures.{apart_at}
+use Rattle.lookup.specs.Views.{branch_in}
+use Rattle.conditions.proofs.FirstLaws.{first_under-find_map}
 use Rattle.conditions.proofs.contradictions.first_apart_from.Goals as goal
 
-pub returns-in-Some : goal.returns-in-Some
-returns-in-Some g c = found_here c.individuals-y-end.ensures c.loop-y.invariant c.loop-y-test.true c.in-Some.ensures
-
-pub loop-y-preserved : goal.loop-y-preserved
-loop-y-preserved g c = found-more c.loop-y.invariant c.in_default.ensures
-
 pub returns : goal.returns
-returns g c = found_all c.individuals-y-end.ensures c.loop-y.invariant c.loop-y-test.false c.loop-y.auto.y-end
+returns g c =
+    let m = g.B.Base.meaning c.args.view.now.base.now in
+    let b = branch_in c.args.view.now in
+    first_under-find_map (apart_at m b c.args.x.0) c.find_map.ensures.runs refl (c.individuals.ensures) (λ y r q k. search rules)

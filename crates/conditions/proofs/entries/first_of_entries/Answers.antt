@@ -1,14 +1,13 @@
--- A turn passes a number at which nothing is found, or ends with what is found there.
-use Rattle.std.proofs.Common.{ap}
+use Rattle.std.proofs.Common.{rules, refl, ap}
+use Rattle.rows.specs.Rows.{row_at}
 use Rattle.kb.specs.declared.counts.Counts.{Counts}
-use Rattle.conditions.proofs.FirstLaws.{found_all, found_here, found-more}
+use Rattle.failures.specs.Failures.{asked_of, at_row, first_of_entry}
+use Rattle.lookup.specs.Views.{branch_in}
+use Rattle.conditions.proofs.FirstLaws.{first_under-find_map}
 use Rattle.conditions.proofs.entries.first_of_entries.Goals as goal
 
-pub returns-in-Some : goal.returns-in-Some
-returns-in-Some g c = found_here (ap (λ (n : Counts). n.entries) c.counts-k-end.ensures) c.loop-k.invariant c.loop-k-test.true c.in-Some.ensures
-
-pub loop-k-preserved : goal.loop-k-preserved
-loop-k-preserved g c = found-more c.loop-k.invariant c.in_default.ensures
-
 pub returns : goal.returns
-returns g c = found_all (ap (λ (n : Counts). n.entries) c.counts-k-end.ensures) c.loop-k.invariant c.loop-k-test.false c.loop-k.auto.k-end
+returns g c =
+    let m = g.B.Base.meaning c.args.view.now.base.now in
+    let b = branch_in c.args.view.now in
+    first_under-find_map (λ k. at_row (first_of_entry m b c.args.which (asked_of c.args.which k)) (row_at m.entries k)) c.find_map.ensures.runs refl (ap (λ (n : Counts). n.entries) c.counts.ensures) (λ n r q k. search rules)

@@ -1,14 +1,12 @@
--- A turn passes a number at which nothing is found, or ends with what is found there.
-use Rattle.std.proofs.Common.{ap}
+use Rattle.std.proofs.Common.{rules, refl, ap}
 use Rattle.kb.specs.declared.counts.Counts.{Counts}
-use Rattle.conditions.proofs.FirstLaws.{found_all, found_here, found-more}
+use Rattle.failures.specs.Failures.{key_at}
+use Rattle.lookup.specs.Views.{branch_in}
+use Rattle.conditions.proofs.FirstLaws.{first_under-find_map}
 use Rattle.conditions.proofs.keys.first_with.Goals as goal
 
-pub returns-in-Some : goal.returns-in-Some
-returns-in-Some g c = found_here (ap (λ (n : Counts). n.individuals) c.counts-y-end.ensures) c.loop-y.invariant c.loop-y-test.true c.in-Some.ensures
-
-pub loop-y-preserved : goal.loop-y-preserved
-loop-y-preserved g c = found-more c.loop-y.invariant c.in_default.ensures
-
 pub returns : goal.returns
-returns g c = found_all (ap (λ (n : Counts). n.individuals) c.counts-y-end.ensures) c.loop-y.invariant c.loop-y-test.false c.loop-y.auto.y-end
+returns g c =
+    let m = g.B.Base.meaning c.args.view.now.base.now in
+    let b = branch_in c.args.view.now in
+    first_under-find_map (key_at m b c.args.n c.args.key c.args.x.0) c.find_map.ensures.runs refl (ap (λ (n : Counts). n.individuals) c.counts.ensures) (λ y r q k. search rules)

@@ -1,5 +1,5 @@
 use Rattle.std.proofs.Common.{rules}
-use lib.ListN.{length-map}
+use Rattle.std.proofs.lemmas.List.{length-map}
 use Rattle.inventory.specs.Inventories.{length-rows_from}
 use Rattle.inventory.proofs.InventoryBase.counts.Goals as goal
 

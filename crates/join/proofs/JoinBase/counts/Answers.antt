@@ -1,5 +1,5 @@
 use Rattle.std.proofs.Common.{rules}
-use lib.ListN.{length-map}
+use Rattle.std.proofs.lemmas.List.{length-map}
 use Rattle.layers.proofs.BehindLaws.{length-behind}
 use Rattle.join.proofs.JoinBase.counts.Goals as goal
 

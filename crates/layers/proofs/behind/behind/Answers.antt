@@ -1,24 +1,9 @@
-use Rattle.std.proofs.Common.{sym, ◌∙◌, rules}
-use Rattle.layers.proofs.BehindLaws.{found_first, found-second, found_none}
+use Rattle.layers.proofs.BehindLaws.{behind-or, behind-past}
 use Rattle.layers.proofs.behind.behind.Goals as goal
 
-pub returns-in-Ok : goal.returns-in-Ok
-returns-in-Ok g c =
-    record {
-      value = search rules;
-      means = λ xs ys s e f. found_first xs ys c.args.n c.in-Ok.row s (sym c.in-Ok.is ∙ e);
-    }
+pub returns-then-n-lt65535-clause-means : goal.returns-then-n-lt65535-clause-means
+returns-then-n-lt65535-clause-means g c =
+    λ xs ys s e f. rw c.or.ensures (behind-or xs ys c.args.n c.args.first c.args.second s c.if-n-lt65535.true e f)
 
-pub returns-in-Err : goal.returns-in-Err
-returns-in-Err g c =
-    record {
-      value = search rules;
-      means = λ xs ys s e f. found-second xs ys c.args.n c.args.second c.in-Err.field-0 c.if-n-lt65535.true (sym c.in-Err.is ∙ e) f;
-    }
-
-pub returns-in-Err-2 : goal.returns-in-Err-2
-returns-in-Err-2 g c =
-    record {
-      value = search rules;
-      means = λ xs ys s e f. found_none xs ys c.args.n c.in-Err-2.fault c.if-n-lt65535.false;
-    }
+pub returns-else-n-lt65535-clause-means : goal.returns-else-n-lt65535-clause-means
+returns-else-n-lt65535-clause-means g c = λ xs ys s e f. behind-past xs ys c.args.n c.args.first s c.if-n-lt65535.false e

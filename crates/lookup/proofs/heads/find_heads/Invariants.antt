@@ -4,5 +4,5 @@ use Rattle.calculus.specs.Branches.{head_of}
 use Rattle.lookup.specs.Heads.{head_in}
 use Rattle.lookup.proofs.heads.find_heads.Given as goal
 
-abbrev pub invariant-loop-i : goal.invariant-loop-i
-invariant-loop-i l = (x : ℕ) → head_of (take l.i l.pairs) x ≡ head_in l.heads x
+abbrev pub invariant-loop-row : goal.invariant-loop-row
+invariant-loop-row l = (x : ℕ) → head_of (take l.row-index l.pairs) x ≡ head_in l.heads x

@@ -1,12 +1,13 @@
--- A turn passes an individual that does not block.
-use Rattle.places.proofs.UnderLaws.{passes_all, passes-found, passes-more}
+use Rattle.std.proofs.Common.{rules, ◌∙◌, refl, arith}
+use Rattle.std.proofs.lemmas.Iterator.{YieldsList-from_range}
+use Rattle.std.proofs.lemmas.Iterator.Search.{any_from_yields_List}
+use Rattle.calculus.specs.Review.{blocks}
+use Rattle.lookup.specs.Views.{branch_in}
+use Rattle.places.proofs.UnderLaws.{any-range}
 use Rattle.places.proofs.blocking.some_blocks.Goals as goal
 
-pub returns-then-blocks : goal.returns-then-blocks
-returns-then-blocks g c = passes-found c.loop-t.invariant c.loop-t-test.true c.if-blocks.ensures
-
-pub loop-t-preserved : goal.loop-t-preserved
-loop-t-preserved g c = passes-more c.loop-t.invariant c.if-blocks.ensures
-
 pub returns : goal.returns
-returns g c = passes_all c.loop-t.invariant c.loop-t-test.false c.loop-t.auto.t-end
+returns g c =
+    let test = blocks (g.B.Base.meaning c.args.view.now.base.now) (branch_in c.args.view.now) c.args.s.0 in
+    any_from_yields_List test _ _ _ c.any.ensures.ran (YieldsList-from_range 0 c.args.s.0 c.args.s.0 refl (omega arith)) (λ x b q k. search rules)
+    ∙ any-range test c.args.s.0

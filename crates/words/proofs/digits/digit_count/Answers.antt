@@ -1,22 +1,17 @@
-use Rattle.std.proofs.Common.{◌≡◌, drop, sym, ◌∙◌, arith}
-use Rattle.std.proofs.lemmas.List.{at_drop_all}
+use Rattle.std.proofs.Common.{◌≡◌, rules, true, false, length, sym, refl, ◌∙◌, arith}
+use borrow.Author.Tests.{tests}
+use Rattle.std.specs.Char.{is_ascii_digit}
+use Rattle.std.specs.Option.{unwrap_or}
+use Rattle.std.proofs.lemmas.Iterator.{IsFirst-from_position, YieldsList-from_slice, index_from_first}
 use Rattle.words.specs.Numerals.{digit_count}
-use Rattle.words.proofs.DigitLaws.{count_goes, count-stops}
+use Rattle.words.proofs.NumeralLaws.{count-within}
 use Rattle.words.proofs.digits.digit_count.Goals as goal
-
-pub returns-then-not-is_ascii_digit : goal.returns-then-not-is_ascii_digit
-returns-then-not-is_ascii_digit c =
-    let z = count-stops c.args.text.now c.loop-i.i c.loop-i-test.true (sym c.is_ascii_digit.ensures.value ∙ c.if-not-is_ascii_digit.true) in
-    record { value = omega arith; within = omega arith }
-
-pub loop-i-preserved : goal.loop-i-preserved
-loop-i-preserved c =
-    let z = count_goes c.args.text.now c.loop-i.i c.loop-i-test.true (sym c.is_ascii_digit.ensures.value ∙ c.if-not-is_ascii_digit.false) in
-    omega arith
 
 pub returns : goal.returns
 returns c =
-    let xs = c.args.text.now in
-    let i = c.loop-i.i in
-    let z : digit_count (drop i xs) ≡ 0 = at_drop_all digit_count xs i c.loop-i-test.false in
-    record { value = omega arith; within = omega arith }
+    let bs = c.args.text.now in
+    let first = IsFirst-from_position _ _ c.position.result (λ b. is_ascii_digit b ≡ false) (λ b. is_ascii_digit b ≡ true) c.position.ensures.ran
+    (YieldsList-from_slice bs cc) (λ x q k. search (rules, tests)) (λ x q k. search (rules, tests)) in
+    let count : digit_count bs ≡ unwrap_or c.position.result (length bs) =
+    index_from_first digit_count (λ b. is_ascii_digit b ≡ false) (λ b. is_ascii_digit b ≡ true) refl (λ b bs e. rw e refl) (λ b bs e. rw e refl) bs c.position.result first in
+    record { value = c.unwrap_or.ensures ∙ sym count; within = omega (arith, count-within bs, count, c.unwrap_or.ensures) }

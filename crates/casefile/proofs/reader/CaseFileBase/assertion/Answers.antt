@@ -1,22 +1,15 @@
-use Rattle.std.proofs.Common.{◌+◌, ◌*◌, ap, ◌∙◌, arith}
+use Rattle.std.proofs.Common.{ap, ◌∙◌}
 use Rattle.kb.specs.declared.counts.Counts.{Counts}
 use Rattle.casefile.specs.Files.{file_counts}
 use Rattle.casefile.specs.Layout.{assertions_at}
 use Rattle.casefile.specs.Numbers.{numbers}
 use Rattle.casefile.specs.Records.{read_assertion}
-use Rattle.casefile.proofs.FileLaws.{row_read, row-beyond}
+use Rattle.casefile.proofs.FileLaws.{assertion_alike, row_found}
 use Rattle.casefile.proofs.reader.CaseFileBase.assertion.Goals as goal
 
-pub returns-then-n-from : goal.returns-then-n-from
-returns-then-n-from c =
+pub returns : goal.returns
+returns c =
     let bytes = c.args.self.now.bytes.now in
     let n = file_counts bytes in
-    let count = c.from.ensures ∙ ap (λ (k : Counts). k.assertions) c.header-counts.ensures in
-    row_read 4 read_assertion (assertions_at n) n.assertions c.from.result c.args.n (c.assertions_at.result + 4 * c.args.n) (numbers bytes) c.read_assertion.result count c.if-n-from.true (omega (arith, ap assertions_at c.header-counts.ensures)) c.read_assertion.ensures
-
-pub returns-else-n-from : goal.returns-else-n-from
-returns-else-n-from c =
-    let bytes = c.args.self.now.bytes.now in
-    let n = file_counts bytes in
-    let count = c.from.ensures ∙ ap (λ (k : Counts). k.assertions) c.header-counts.ensures in
-    row-beyond 4 read_assertion (assertions_at n) n.assertions c.from.result c.args.n (numbers bytes) count c.if-n-from.false
+    let count = c.assertions.ensures.rows ∙ ap (λ (k : Counts). k.assertions) c.header.ensures in
+    row_found 4 read_assertion assertion_alike (assertions_at n) n.assertions _ _ c.args.n (numbers bytes) (c.assertions.ensures.at ∙ ap assertions_at c.header.ensures) count c.row.result c.row.ensures.found c.row.ensures.absent

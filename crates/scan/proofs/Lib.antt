@@ -1,2 +1,0 @@
--- Lemmas that proofs of scans share.
-pub mod Scans
