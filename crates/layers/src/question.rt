@@ -37,22 +37,22 @@ fn key_denial(
 {
     let x = Individual(n);
     let y = Individual(n.saturating_add(1));
-    let classes = [
-        Assertion::Is(c, x),
-        Assertion::Is(d, y),
-        Assertion::Different(x, y),
-    ];
-    if k < classes.len() {
-        return Ok(classes[k]);
-    }
-    // Each pair joins x and y, in a row of its own each, to a new individual z.
-    let k = k - classes.len();
-    let pair = rows::row(&pairs.list(), k / 2)?;
-    let z = Individual(n.saturating_add(2 + (k / 2) as u16));
-    if k % 2 == 0 {
-        Ok(Assertion::Joins(pair.left, x, z))
-    } else {
-        Ok(Assertion::Joins(pair.right, y, z))
+    // No list of the first three: this is asked for each row of the base below too, and none is made of it then.
+    match k {
+        0 => Ok(Assertion::Is(c, x)),
+        1 => Ok(Assertion::Is(d, y)),
+        2 => Ok(Assertion::Different(x, y)),
+        _ => {
+            // Each pair joins x and y, in a row of its own each, to a new individual z.
+            let k = k - 3;
+            let pair = rows::row(&pairs.list(), k / 2)?;
+            let z = Individual(n.saturating_add(2 + (k / 2) as u16));
+            if k % 2 == 0 {
+                Ok(Assertion::Joins(pair.left, x, z))
+            } else {
+                Ok(Assertion::Joins(pair.right, y, z))
+            }
+        }
     }
 }
 

@@ -1,6 +1,6 @@
 // Playing a step: what the sheet holds is looked up first, then the ledgers are written, and then the step is counted. The host
 // lends base, ledgers and scratch in each call.
-ghost use Rattle.std.specs.Prelude.{◌≡◌, ◌<◌, true, length};
+ghost use Rattle.std.specs.Prelude.{◌≡◌, ◌<◌, true, length, IfOk};
 ghost use Rattle.calculus.specs.Playing.{accepted, close, last_of, perform};
 ghost use Rattle.calculus.specs.States.{fits};
 ghost use Rattle.ledgers.specs.Contents.{ledgers_of};
@@ -39,7 +39,8 @@ impl Sheet {
         }
     }
 
-    // 9 unless every need of a rule is held; else what the rule does.
+    // 9 unless every need of a rule is held, and 10 after 1,000,000 steps; else what the rule does. A right side that is pending is
+    // looked up last, since the heads are computed anew for it.
     fn decide<B: Base>(
         &self,
         rows: &Rows<'_, '_, B>,
@@ -48,9 +49,13 @@ impl Sheet {
     ) -> Result<Turn, StepFault>
         requires fit { fits (B.meaning rows.now.base.now) (state_of self.now (ledgers_of rows.now.ledgers.now)) ≡ true }
         requires heads { length heads.old ≡ self.now.individuals }
-        ensures { performed (state_of self.now (ledgers_of rows.now.ledgers.now)) result ≡ perform (B.meaning rows.now.base.now) (state_of self.now (ledgers_of rows.now.ledgers.now)) (rule_of rule.now) }
+        ensures value { performed (state_of self.now (ledgers_of rows.now.ledgers.now)) result ≡ perform (B.meaning rows.now.base.now) (state_of self.now (ledgers_of rows.now.ledgers.now)) (rule_of rule.now) }
+        ensures counted { IfOk result (λ _. self.now.steps < 1000000) }
     {
         let new = rows.look_up(heads, rule)?;
+        if self.steps >= 1000000 {
+            return Err(StepFault::Full);
+        }
         let individuals = self.individuals;
         Ok(match rule.effect {
             Effect::Adds(_) => Turn::Extends {
@@ -167,9 +172,6 @@ impl Sheet {
         let individuals = usize::from(self.individuals);
         let rows = Rows { base, ledgers };
         let turn = self.decide(&rows, &mut scratch[..individuals], &rule)?;
-        if self.steps >= 1000000 {
-            return Err(StepFault::Full);
-        }
         let done = self.carry_out(ledgers, turn)?;
         self.accept(ledgers, done);
         Ok(done.rows)

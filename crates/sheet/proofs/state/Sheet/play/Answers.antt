@@ -1,5 +1,5 @@
 -- A sheet that is ready has its own base and ledgers, and a scratch for its individuals; it does what is found of its step.
-use Rattle.std.proofs.Common.{◌≡◌, true, ltb, Err, length, sym, ◌∙◌, arith}
+use Rattle.std.proofs.Common.{◌≡◌, true, ltb, Err, length, sym, ◌∙◌}
 use Rattle.std.proofs.lemmas.Bool.{cond-true, lt-ltb}
 use Rattle.calculus.specs.declared.fault.StepFault.TheVariants.{Full}
 use Rattle.ledgers.specs.Contents.{ledgers_of}
@@ -15,9 +15,9 @@ returns g c =
     let s = state_of c.args.self.now (ledgers_of c.args.ledgers.now) in
     let k = length c.args.scratch.now in
     let t = c.args.step.now in
-    let few : ltb s.numbers.steps 1000000 ≡ true = lt-ltb _ _ (omega arith) in
+    let few : ltb s.numbers.steps 1000000 ≡ true = lt-ltb _ _ c.in_ok-turn.ensures.counted in
     let done = turn_by s c.in_ok-turn.turn in
     stepped-played m k t s
     (stepped_as
-    (sym (cond-true _ done (Err Full) few) ∙ c.in_ok-turn.ensures ∙ sym (play_performs m k t s (rule_of c.in_ok-rule.rule) (sym c.in_ok-check_ready.ensures) (sym c.in_ok-rule.ensures)))
+    (sym (cond-true _ done (Err Full) few) ∙ c.in_ok-turn.ensures.value ∙ sym (play_performs m k t s (rule_of c.in_ok-rule.rule) (sym c.in_ok-check_ready.ensures) (sym c.in_ok-rule.ensures)))
     (stepped_done c.in_ok-done.ensures c.accept.ensures))
