@@ -37,7 +37,7 @@ fn key_denial(
 {
     let x = Individual(n);
     let y = Individual(n.saturating_add(1));
-    // No list of the first three: this is asked for each row of the base below too, and none is made of it then.
+    // The first three by a match, not from a list: for each row of the base below row 0 is asked for here too, and not used.
     match k {
         0 => Ok(Assertion::Is(c, x)),
         1 => Ok(Assertion::Is(d, y)),

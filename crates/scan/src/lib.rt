@@ -1,5 +1,6 @@
 // Whether a test passes at some item of a slice, or at every one, where the test is a type of its own, with whatever it compares
-// items to. What the items are about does not belong here. Inside this repository tests are closures, and scans the library's.
+// items to. What the items are about does not belong here. Inside this repository tests are closures, and the scans are the
+// library's.
 #![tactic(auto)]
 
 ghost use Rattle.std.specs.List.{list_all, list_any};
